@@ -1,0 +1,41 @@
+-- Laws of sums.
+-- Assumes nothing.
+use mathlib.Core.Path.{_≡_, refl, sym, ap, ap₂, _∙_}
+use mathlib.Core.Logic.{_⊎_, inl, inr}
+use Prim.Native.Nat.{ℕ, zero, suc, _+_, _*_, _≤_, _<_}
+use native.Mathlib.Nat.{eq-or-lt-of-le}
+use native.Mathlib.Numerals.{add-one}
+use native.Mathlib.Omega.{arith}
+use Rattle.lists.specs.Sum.{sumTo}
+
+pub sumTo-more : (n : ℕ) (f : ℕ → ℕ) → sumTo (n + 1) f ≡ sumTo n f + f n
+unfolding sumTo
+sumTo-more n f = rw add-one
+
+-- equal summands, equal sums
+pub sumTo-eq : (n : ℕ) (f g : ℕ → ℕ) → ((i : ℕ) → i < n → f i ≡ g i) → sumTo n f ≡ sumTo n g
+unfolding sumTo
+sumTo-eq zero f g h = refl
+sumTo-eq (suc n) f g h = ap₂ _+_ (sumTo-eq n f g (λ i k. h i (omega arith))) (h n (omega arith))
+
+-- from the front
+pub sumTo-head : (n : ℕ) (f : ℕ → ℕ) → sumTo (suc n) f ≡ f zero + sumTo n (λ i. f (suc i))
+unfolding sumTo
+sumTo-head zero f = omega arith
+sumTo-head (suc n) f = omega (arith, sumTo-head n f)
+
+-- summands that are 0 from place l on
+pub sumTo-cut : (n l : ℕ) (f : ℕ → ℕ) → l ≤ n → ((i : ℕ) → l ≤ i → i < n → f i ≡ zero) → sumTo n f ≡ sumTo l f
+unfolding sumTo
+sumTo-cut zero l f h z = ap (λ k. sumTo k f) (let e : zero ≡ l = omega arith in e)
+sumTo-cut (suc n) l f h z = go (eq-or-lt-of-le h) (λ k. sumTo-cut n l f k (λ i a b. z i a (omega arith)))
+  where
+    go : (l ≡ suc n) ⊎ (l < suc n) → (l ≤ n → sumTo n f ≡ sumTo l f) → sumTo (suc n) f ≡ sumTo l f
+    go (inl e) ih = ap (λ k. sumTo k f) (sym e)
+    go (inr k) ih = omega (arith, ih (omega arith), z n (omega arith) (omega arith))
+
+-- a bound
+pub sumTo-le : (n c : ℕ) (f : ℕ → ℕ) → ((i : ℕ) → i < n → f i ≤ c) → sumTo n f ≤ n * c
+unfolding sumTo
+sumTo-le zero c f h = omega arith
+sumTo-le (suc n) c f h = omega (arith, sumTo-le n c f (λ i k. h i (omega arith)), h n (omega arith))

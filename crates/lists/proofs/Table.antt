@@ -1,0 +1,81 @@
+-- Laws of lists made by a rule for their entries.
+-- Assumes nothing.
+use mathlib.Core.Path.{_≡_, refl, sym, ap, ap₂, _∙_}
+use mathlib.Core.List.{List, [], _∷_, map}
+use mathlib.Core.Logic.{_⊎_, inl, inr}
+use Prim.Native.Nat.{ℕ, zero, suc, _+_, _≤_, _<_, max}
+use native.Mathlib.Nat.{le-of-suc-le-suc, not-suc-le-zero, lt-irrefl, le-trans}
+use native.Mathlib.Decide.{decLt}
+use native.Mathlib.Omega.{arith}
+use lib.ListN.{length, getD, set, length-set, List·getD-eq-default}
+use lib.Seq.{ext-getD, getD-set-same, getD-set-other}
+use borrow.Author.Count.{below-more}
+use Rattle.lists.specs.Table.{at, tabulate, largest}
+
+pub length-tabulate {ℓ} : {A : Type ℓ} (n : ℕ) (f : ℕ → A) → length (tabulate n f) ≡ n
+unfolding tabulate
+length-tabulate zero f = refl
+length-tabulate (suc n) f = ap suc (length-tabulate n (λ i. f (suc i)))
+
+pub getD-tabulate {ℓ} : {A : Type ℓ} (n : ℕ) (f : ℕ → A) (i : ℕ) (d : A) → i < n → getD (tabulate n f) i d ≡ f i
+unfolding tabulate
+getD-tabulate zero f i d h = absurd (omega arith)
+getD-tabulate (suc n) f zero d h = refl
+getD-tabulate (suc n) f (suc i) d h = getD-tabulate n (λ i. f (suc i)) i d (omega arith)
+
+-- past its end a list of numbers reads 0
+pub at-past : (xs : List ℕ) (i : ℕ) → length xs ≤ i → at xs i ≡ zero
+at-past xs i h = List·getD-eq-default xs zero h
+
+pub at-tabulate : (n : ℕ) (f : ℕ → ℕ) (i : ℕ) → i < n → at (tabulate n f) i ≡ f i
+at-tabulate n f i h = getD-tabulate n f i zero h
+
+-- where the rule gives 0 from place n on, cutting at n loses nothing
+pub at-tabulate-all : (n : ℕ) (f : ℕ → ℕ) → ((i : ℕ) → n ≤ i → f i ≡ zero) → (i : ℕ) → at (tabulate n f) i ≡ f i
+at-tabulate-all n f past i = go (decLt i n)
+  where
+    go : Dec (i < n) → at (tabulate n f) i ≡ f i
+    go (yes h) = at-tabulate n f i h
+    go (no h) = at-past (tabulate n f) i (omega (arith, length-tabulate n f)) ∙ sym (past i (omega arith))
+
+pub tabulate-eq {ℓ} : {A : Type ℓ} (n : ℕ) (f g : ℕ → A) → ((i : ℕ) → i < n → f i ≡ g i) → tabulate n f ≡ tabulate n g
+unfolding tabulate
+tabulate-eq zero f g h = refl
+tabulate-eq (suc n) f g h =
+    ap₂ (λ x xs. x ∷ xs) (h zero (omega arith)) (tabulate-eq n (λ i. f (suc i)) (λ i. g (suc i)) (λ i k. h (suc i) (omega arith)))
+
+-- a list that has been filled by the rule f
+pub is-tabulate : {A : Type 0} (n : ℕ) (f : ℕ → A) (d : A) (xs : List A) → length xs ≡ n → ((i : ℕ) → i < n → getD xs i d ≡ f i) → xs ≡ tabulate n f
+is-tabulate n f d xs e h =
+    ext-getD d xs (tabulate n f) (e ∙ sym (length-tabulate n f)) λ i k. h i (rw (← e) k) ∙ sym (getD-tabulate n f i d (rw (← e) k))
+
+pub tabulate-self : {A : Type 0} (d : A) (xs : List A) → xs ≡ tabulate (length xs) (λ j. getD xs j d)
+tabulate-self d xs = is-tabulate (length xs) (λ j. getD xs j d) d xs refl (λ i h. refl)
+
+-- A list of n entries of which the first i are by the rule f: what a loop that fills an array knows.
+pub record Filled {A : Type 0} (d : A) (f : ℕ → A) (n i : ℕ) (xs : List A) : Type 0 where
+  pub size : length xs ≡ n
+  pub done : (j : ℕ) → j < i → getD xs j d ≡ f j
+
+module _ {A : Type 0} {d : A} {f : ℕ → A} {n : ℕ} where
+  pub filled-none : (xs : List A) → length xs ≡ n → Filled d f n 0 xs
+  filled-none xs e = record { size = e; done = λ j h. absurd (not-suc-le-zero h) }
+
+  pub filled-more : {i : ℕ} {xs : List A} (v : A) → Filled d f n i xs → i < n → v ≡ f i → Filled d f n (i + 1) (set xs i v)
+  filled-more {i} {xs} v h k e =
+      record {
+        size = length-set xs i v ∙ h .size;
+        done = below-more _ i
+            (λ j l. getD-set-other xs i j v d (λ q. lt-irrefl j (rw (← q) at l)) ∙ h .done j l)
+            (getD-set-same xs i v d (rw (h .size) k) ∙ e);
+      }
+
+  pub filled-all : {i : ℕ} {xs : List A} → Filled d f n i xs → n ≤ i → xs ≡ tabulate n f
+  filled-all {xs = xs} h k = is-tabulate n f d xs (h .size) (λ j l. h .done j (le-trans l k))
+
+-- ---- the largest of some numbers
+
+pub largest-most : {A : Type 0} (f : A → ℕ) (l : ℕ) (xs : List A) → ((x : A) → f x ≤ l) → largest (map f xs) ≤ l
+unfolding largest
+largest-most f l [] h = omega arith
+largest-most f l (x ∷ xs) h = omega (arith, h x, largest-most f l xs h)

@@ -1,0 +1,191 @@
+-- The least divisor, and every number as a product of prime powers with rising primes.
+-- Assumes nothing.
+use mathlib.Core.Path.{_≡_, refl, sym, ap, ap₂, _∙_, subst}
+use mathlib.Core.Logic.{_⊎_, inl, inr, _≢_}
+use mathlib.Core.Bool.{Bool, true, false}
+use mathlib.Core.List.{List, [], _∷_}
+use Prim.Native.Nat.{ℕ, zero, suc, _+_, _*_, _-_, _/_, _%_, _^_, _≤_, _<_}
+use native.Mathlib.Nat.{le-refl, mod-lt, mod-self, mod-mod-of-dvd, dvd-of-mod-eq-zero, zero-mod, pow-suc, pow-zero, div-one, mul-comm, mul-le-mul-left, mul-le-mul-right, mul-mod-left, pos-of-ne-zero, one-le-pow, one-mul}
+use native.Mathlib.Decide.{ℕ-discrete}
+use native.Mathlib.Omega.{arith}
+use lib.Dec.{leb, eqb}
+use borrow.Author.Tests.{eq-eqb, eqb-true, le-leb, leb-true, leb-false}
+use Rattle.lists.specs.Choice.{both}
+use Rattle.lists.specs.Search.{first}
+use Rattle.lists.proofs.Search.{both-left, both-right, both-true, first-le, first-passes, first-before, first-found, lt-or-le, false-true}
+use Rattle.residue.specs.Congruence.{Cong}
+use Rattle.residue.specs.Units.{Prime, Coprime}
+use Rattle.residue.specs.Valuation.{valuation}
+use Rattle.residue.specs.Factors.{leastDivisor, PrimePower, value, leastPower, powersUpTo, primePowers}
+use Rattle.residue.proofs.Congruence.{pow-lt}
+use Rattle.residue.proofs.Valuation.{Parts, valuation-parts}
+
+-- ---- the least divisor
+
+-- p is the least divisor of m from 2 up
+pub record IsLeastDivisor (m p : ℕ) : Type 0 where
+  pub big : 1 < p
+  pub most : p ≤ m
+  pub divides : m % p ≡ zero
+  pub none : (d : ℕ) → 1 < d → d < p → m % d ≢ zero
+
+abbrev test : ℕ → ℕ → Bool
+test m d = both (leb 2 d) (eqb (m % d) zero)
+
+passes : (m d : ℕ) → 1 < d → m % d ≡ zero → test m d ≡ true
+passes m d h z = both-true (le-leb 2 d h) (eq-eqb (m % d) zero z)
+
+pub least-divisor : (m : ℕ) → 1 < m → IsLeastDivisor m (leastDivisor m)
+unfolding leastDivisor
+least-divisor m h = go (lt-or-le (first m (test m)) m)
+  where
+    none : (d : ℕ) → 1 < d → d < first m (test m) → m % d ≢ zero
+    none d lo hi z = false-true (sym (first-before m (test m) d hi) ∙ passes m d lo z)
+
+    go : (first m (test m) < m) ⊎ (m ≤ first m (test m)) → IsLeastDivisor m (first m (test m))
+    go (inl l) =
+        let t = first-passes m (test m) l in
+        record {
+          big = leb-true 2 (first m (test m)) (both-left (leb 2 (first m (test m))) (eqb (m % first m (test m)) zero) t);
+          most = first-le m (test m);
+          divides = eqb-true (m % first m (test m)) zero (both-right (leb 2 (first m (test m))) (eqb (m % first m (test m)) zero) t);
+          none = none;
+        }
+    go (inr l) =
+        let e : m ≡ first m (test m) = omega (arith, first-le m (test m)) in
+        record { big = omega arith; most = first-le m (test m); divides = subst (λ (x : ℕ). m % x ≡ zero) e (mod-self m); none = none }
+
+-- there is only one
+pub is-least-divisor : (m p : ℕ) → 1 < m → IsLeastDivisor m p → p ≡ leastDivisor m
+is-least-divisor m p h x = go (lt-or-le p (leastDivisor m)) (lt-or-le (leastDivisor m) p)
+  where
+    y : IsLeastDivisor m (leastDivisor m)
+    y = least-divisor m h
+
+    go : (p < leastDivisor m) ⊎ (leastDivisor m ≤ p) → (leastDivisor m < p) ⊎ (p ≤ leastDivisor m) → p ≡ leastDivisor m
+    go (inl l) k = absurd (y .none p (x .big) l (x .divides))
+    go (inr l) (inl k) = absurd (x .none (leastDivisor m) (y .big) k (y .divides))
+    go (inr l) (inr k) = omega arith
+
+-- a divisor of a divisor divides
+pub divides-trans : (d p m : ℕ) → p % d ≡ zero → m % p ≡ zero → m % d ≡ zero
+divides-trans d p m h k =
+    sym (mod-mod-of-dvd d m (dvd-of-mod-eq-zero d {n = p} h)) ∙ ap (λ (y : ℕ). y % d) k ∙ zero-mod d
+
+pub least-divisor-prime : (m p : ℕ) → IsLeastDivisor m p → Prime p
+least-divisor-prime m p x = record { big = x .big; bare = λ d lo hi z. x .none d lo hi (divides-trans d p m z (x .divides)) }
+
+-- ---- its power in m
+
+below-power : (p n : ℕ) → 1 < p → n < p ^ n
+below-power p zero h = omega (arith, pow-zero p)
+below-power p (suc n) h =
+    let ih : n < p ^ n = below-power p n h in
+    let s : p ^ n * 2 ≤ p ^ n * p = mul-le-mul-left (p ^ n) h in
+    omega (arith, pow-suc p n)
+
+module _ (m : ℕ) (h : 1 < m) where
+  pub least-prime : Prime (leastPower m .prime)
+  unfolding leastPower
+  least-prime = least-divisor-prime m (leastDivisor m) (least-divisor m h)
+
+  pub least-power-divisor : IsLeastDivisor m (leastPower m .prime)
+  unfolding leastPower
+  least-power-divisor = least-divisor m h
+
+  pub least-parts : Parts m (leastPower m .prime) m (leastPower m .exponent) (m / value (leastPower m))
+  unfolding leastPower
+  least-parts = valuation-parts m (leastDivisor m) m (least-prime .big) (omega arith) (below-power (leastDivisor m) m (least-prime .big))
+
+  pub least-exponent : zero < leastPower m .exponent
+  unfolding leastPower
+  least-exponent = pos-of-ne-zero (λ z. least-parts .bare
+      (ap (λ (x : ℕ). m / leastDivisor m ^ x % leastDivisor m) z ∙ ap (λ (x : ℕ). m / x % leastDivisor m) (pow-zero (leastDivisor m))
+      ∙ ap (λ (x : ℕ). x % leastDivisor m) (div-one m) ∙ least-divisor m h .divides))
+
+  pub least-whole : value (leastPower m) * (m / value (leastPower m)) ≡ m
+  least-whole = mul-comm (value (leastPower m)) (m / value (leastPower m)) ∙ sym (least-parts .whole)
+
+  pub least-value : 1 < value (leastPower m)
+  least-value =
+      omega (arith, pow-lt (leastPower m .prime) (leastPower m .exponent) (least-prime .big) least-exponent, pow-zero (leastPower m .prime))
+
+  pub rest-pos : zero < m / value (leastPower m)
+  rest-pos = pos-of-ne-zero (λ z. least-parts .bare (ap (λ (x : ℕ). x % leastPower m .prime) z ∙ zero-mod (leastPower m .prime)))
+
+  pub rest-lt : m / value (leastPower m) < m
+  rest-lt = omega (arith, rest-pos, least-whole, mul-le-mul-right (m / value (leastPower m)) least-value)
+
+-- ---- factorization
+
+-- m is the product of the prime powers, and each prime divides none of the product of those after it
+pub data Factored : ℕ → List PrimePower → Type 0 where
+  one : Factored 1 []
+  more : {rest : ℕ} {f : PrimePower} {fs : List PrimePower} → Prime (f .prime) → zero < f .exponent → rest % f .prime ≢ zero → zero < rest
+      → Factored rest fs → Factored (value f * rest) (f ∷ fs)
+
+factored-upto : (f m : ℕ) → zero < m → m ≤ f → Factored m (powersUpTo f m)
+unfolding powersUpTo
+factored-upto zero m pos fuel = absurd (omega arith)
+factored-upto (suc f) m pos fuel = go (leb m 1) refl (λ r a b. factored-upto f r a b)
+  where
+    go : (t : Bool) → leb m 1 ≡ t → ((r : ℕ) → zero < r → r ≤ f → Factored r (powersUpTo f r))
+        → Factored m (elim t as (λ z. List PrimePower) [ true ↦ [] | false ↦ leastPower m ∷ powersUpTo f (m / value (leastPower m)) ])
+    go true e ih = subst (λ (x : ℕ). Factored x []) (let z : 1 ≡ m = omega (arith, leb-true m 1 e) in z) one
+    go false e ih =
+        let big : 1 < m = leb-false m 1 e in
+        subst (λ (x : ℕ). Factored x (leastPower m ∷ powersUpTo f (m / value (leastPower m)))) (least-whole m big)
+        (more (least-prime m big) (least-exponent m big) (least-parts m big .bare) (rest-pos m big)
+        (ih (m / value (leastPower m)) (rest-pos m big) (omega (arith, rest-lt m big))))
+
+pub factored : (m : ℕ) → zero < m → Factored m (primePowers m)
+unfolding primePowers
+factored m pos = factored-upto m m pos (le-refl m)
+
+-- each prime of the list is above the one before it
+pub data Rising : ℕ → List PrimePower → Type 0 where
+  end : {p : ℕ} → Rising p []
+  next : {p : ℕ} {f : PrimePower} {fs : List PrimePower} → p < f .prime → Rising (f .prime) fs → Rising p (f ∷ fs)
+
+rising-upto : (f m p : ℕ) → zero < m → m ≤ f → ((d : ℕ) → 1 < d → m % d ≡ zero → p < d) → Rising p (powersUpTo f m)
+unfolding powersUpTo
+rising-upto zero m p pos fuel above = absurd (omega arith)
+rising-upto (suc f) m p pos fuel above = go (leb m 1) refl (λ r a b c. rising-upto f r (leastPower m .prime) a b c)
+  where
+    go : (t : Bool) → leb m 1 ≡ t
+        → ((r : ℕ) → zero < r → r ≤ f → ((d : ℕ) → 1 < d → r % d ≡ zero → leastPower m .prime < d) → Rising (leastPower m .prime) (powersUpTo f r))
+        → Rising p (elim t as (λ z. List PrimePower) [ true ↦ [] | false ↦ leastPower m ∷ powersUpTo f (m / value (leastPower m)) ])
+    go true e ih = end
+    go false e ih =
+        next (above (leastPower m .prime) (least-prime m big .big) divides)
+        (ih (m / value (leastPower m)) (rest-pos m big) (omega (arith, rest-lt m big)) larger)
+      where
+        big : 1 < m
+        big = leb-false m 1 e
+
+        least : IsLeastDivisor m (leastPower m .prime)
+        least = least-power-divisor m big
+
+        divides : m % leastPower m .prime ≡ zero
+        divides = least .divides
+
+        rest : ℕ
+        rest = m / value (leastPower m)
+
+        rest-divides : m % rest ≡ zero
+        rest-divides = ap (λ (x : ℕ). x % rest) (sym (least-whole m big)) ∙ mul-mod-left (value (leastPower m)) rest
+
+        larger : (d : ℕ) → 1 < d → rest % d ≡ zero → leastPower m .prime < d
+        larger d lo z = pick (lt-or-le (leastPower m .prime) d)
+          where
+            pick : (leastPower m .prime < d) ⊎ (d ≤ leastPower m .prime) → leastPower m .prime < d
+            pick (inl l) = l
+            pick (inr l) = same (ℕ-discrete d (leastPower m .prime))
+              where
+                same : Dec (d ≡ leastPower m .prime) → leastPower m .prime < d
+                same (yes s) = absurd (least-parts m big .bare (subst (λ (x : ℕ). rest % x ≡ zero) s z))
+                same (no s) = absurd (least .none d lo (omega arith) (divides-trans d rest m z rest-divides))
+
+pub rising : (m : ℕ) → zero < m → Rising 1 (primePowers m)
+unfolding primePowers
+rising m pos = rising-upto m m 1 pos (le-refl m) (λ d h z. h)

@@ -1,0 +1,5 @@
+pub mod Congruence
+pub mod Units
+pub mod Valuation
+pub mod Factors
+pub mod Remainders

@@ -1,0 +1,1 @@
+// Numbers modulo m, by value.
