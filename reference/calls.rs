@@ -1,0 +1,276 @@
+//! The calls of document 01 on plain values and byte buffers.
+//!
+//! "Order where several apply: 5, 21, 1, 2, 22, 3, 4, 6, 23, 24. Each call gives
+//! only those that concern what it is handed." A refused call leaves every lent
+//! byte as it was.
+
+use crate::join::{profile as profile_of, register as register_of, Register};
+use crate::limits::*;
+use crate::steps::product_coefficient;
+
+/// The number of a refusal.
+pub type Refusal = u32;
+
+pub const BAD_MODULUS: Refusal = 1;
+pub const TOO_MANY: Refusal = 2;
+pub const BAD_TERM: Refusal = 3;
+pub const BAD_PADDING: Refusal = 4;
+pub const BAD_BUFFER: Refusal = 5;
+pub const BAD_CLAIM: Refusal = 6;
+pub const BAD_READING: Refusal = 21;
+pub const FULL: Refusal = 22;
+pub const BAD_SHELF: Refusal = 23;
+pub const BAD_RECORD: Refusal = 24;
+
+/// "A reading is a value: the modulus, the count, and 128 cells of terms, zero
+/// past the count." The fields may hold anything; a bad reading gets 21.
+#[derive(Clone, PartialEq, Eq, Debug)]
+pub struct Reading {
+    pub modulus: u16,
+    pub count: u16,
+    pub terms: [u16; TERMS_LIMIT],
+}
+
+/// The verdict of a test; no carries the first place that differs.
+#[derive(Clone, Copy, PartialEq, Eq, Debug)]
+pub enum Verdict {
+    Yes,
+    No(usize),
+}
+
+/// The answer of serving: the number of the record found, or that one was made.
+#[derive(Clone, Copy, PartialEq, Eq, Debug)]
+pub enum Served {
+    Found(usize),
+    Made,
+}
+
+/// A modulus and terms that passed the checks.
+#[derive(Clone, PartialEq, Eq, Debug)]
+pub struct Sequence {
+    pub modulus: u64,
+    pub terms: Vec<u64>,
+}
+
+// ---- cells ----
+
+/// The cells of a buffer, low byte first.
+pub fn cells(bytes: &[u8]) -> Vec<u64> {
+    bytes.chunks_exact(CELL_BYTES).map(|c| u64::from(u16::from_le_bytes([c[0], c[1]]))).collect()
+}
+
+/// Writes the numbers as cells; the buffer has room for exactly these.
+pub fn write_cells(buffer: &mut [u8], numbers: &[u64]) {
+    assert_eq!(buffer.len(), numbers.len() * CELL_BYTES);
+    for (cell, &number) in buffer.chunks_exact_mut(CELL_BYTES).zip(numbers) {
+        cell.copy_from_slice(&u16::try_from(number).expect("fits a cell").to_le_bytes());
+    }
+}
+
+// ---- checks ----
+
+fn demand(holds: bool, refusal: Refusal) -> Result<(), Refusal> {
+    if holds {
+        Ok(())
+    } else {
+        Err(refusal)
+    }
+}
+
+fn legal_modulus(modulus: u64) -> bool {
+    (2..=MODULUS_LIMIT).contains(&modulus)
+}
+
+/// 1, 2, 3, 4 for a modulus, a count and 128 cells. A cell past the count is a
+/// matter of 4, however large it is.
+fn check_terms(modulus: u64, count: u64, terms: &[u64]) -> Result<Sequence, Refusal> {
+    demand(legal_modulus(modulus), BAD_MODULUS)?;
+    demand(count <= TERMS_LIMIT as u64, TOO_MANY)?;
+    let (taken, past) = terms.split_at(count as usize);
+    demand(taken.iter().all(|&term| term < modulus), BAD_TERM)?;
+    demand(past.iter().all(|&cell| cell == 0), BAD_PADDING)?;
+    Ok(Sequence { modulus, terms: taken.to_vec() })
+}
+
+/// 1, 2, 3, 4 for a slip of the right length.
+pub fn check_slip(slip: &[u8]) -> Result<Sequence, Refusal> {
+    let numbers = cells(slip);
+    check_terms(numbers[0], numbers[1], &numbers[2..])
+}
+
+/// 21 for anything that would be 1 to 4 on a slip.
+fn check_reading(reading: &Reading) -> Result<Sequence, Refusal> {
+    let terms: Vec<u64> = reading.terms.iter().map(|&term| u64::from(term)).collect();
+    check_terms(u64::from(reading.modulus), u64::from(reading.count), &terms)
+        .map_err(|_| BAD_READING)
+}
+
+/// 6: "a claim has l above 128, a coefficient not below m, a nonzero a past l or b
+/// past l-1, or a_0 other than 1".
+fn check_claim(modulus: u64, a: &[u8], b: &[u8], l: u64) -> Result<Register, Refusal> {
+    demand(l <= TERMS_LIMIT as u64, BAD_CLAIM)?;
+    let claim = Register { length: l as usize, a: cells(a), b: cells(b) };
+    demand(claim.a.iter().chain(&claim.b).all(|&c| c < modulus), BAD_CLAIM)?;
+    demand(claim.a.iter().skip(claim.length + 1).all(|&c| c == 0), BAD_CLAIM)?;
+    demand(claim.b.iter().skip(claim.length).all(|&c| c == 0), BAD_CLAIM)?;
+    demand(claim.a[0] == 1, BAD_CLAIM)?;
+    Ok(claim)
+}
+
+// ---- calls that hold a reading ----
+
+/// The reading of zeros, which gets 21 everywhere.
+pub fn zero_reading() -> Reading {
+    Reading { modulus: 0, count: 0, terms: [0; TERMS_LIMIT] }
+}
+
+/// Opens a reading. "A refused opening hands back a reading of zeros."
+pub fn open(modulus: u32) -> (Reading, Result<(), Refusal>) {
+    if !legal_modulus(u64::from(modulus)) {
+        return (zero_reading(), Err(BAD_MODULUS));
+    }
+    (Reading { modulus: modulus as u16, ..zero_reading() }, Ok(()))
+}
+
+/// Takes a term: 21, 22, 3. A refused term leaves the reading as it came.
+pub fn push(reading: &mut Reading, term: u32) -> Result<(), Refusal> {
+    let held = check_reading(reading)?;
+    demand(held.terms.len() < TERMS_LIMIT, FULL)?;
+    demand(u64::from(term) < held.modulus, BAD_TERM)?;
+    reading.terms[held.terms.len()] = term as u16;
+    reading.count += 1;
+    Ok(())
+}
+
+/// Reports the register and returns l: 5, 21.
+pub fn register(reading: &Reading, a: &mut [u8], b: &mut [u8]) -> Result<usize, Refusal> {
+    demand(a.len() == A_BYTES && b.len() == B_BYTES, BAD_BUFFER)?;
+    let held = check_reading(reading)?;
+    let register = register_of(held.modulus, &held.terms);
+    write_cells(a, &register.a);
+    write_cells(b, &register.b);
+    Ok(register.length)
+}
+
+/// Reports the profile, zero past n: 5, 21.
+pub fn profile(reading: &Reading, buffer: &mut [u8]) -> Result<(), Refusal> {
+    demand(buffer.len() == PROFILE_BYTES, BAD_BUFFER)?;
+    let held = check_reading(reading)?;
+    let mut lengths: Vec<u64> =
+        profile_of(held.modulus, &held.terms).into_iter().map(|l| l as u64).collect();
+    lengths.resize(PROFILE_CELLS, 0);
+    write_cells(buffer, &lengths);
+    Ok(())
+}
+
+// ---- testing and running ----
+
+/// Tests a claim against a slip: 5, then 1 to 4, then 6.
+pub fn verify(slip: &[u8], a: &[u8], b: &[u8], l: u32) -> Result<Verdict, Refusal> {
+    let right = slip.len() == SLIP_BYTES && a.len() == A_BYTES && b.len() == B_BYTES;
+    demand(right, BAD_BUFFER)?;
+    let sequence = check_slip(slip)?;
+    let claim = check_claim(sequence.modulus, a, b, u64::from(l))?;
+    Ok(verdict(&sequence, &claim))
+}
+
+/// "It generates the terms if S × a and b agree modulo m in every coefficient 0 to
+/// n-1"; no carries "the first place where the product and b differ".
+pub fn verdict(sequence: &Sequence, claim: &Register) -> Verdict {
+    let m = sequence.modulus;
+    let differs =
+        |&j: &usize| product_coefficient(&sequence.terms, &claim.a, j, m) != claim.b[j] % m;
+    (0..sequence.terms.len()).find(differs).map_or(Verdict::Yes, Verdict::No)
+}
+
+/// Runs a claim: 5 (a, b, odd bytes), 1, 2 (cells), 6.
+pub fn generate(
+    modulus: u32,
+    a: &[u8],
+    b: &[u8],
+    l: u32,
+    buffer: &mut [u8],
+) -> Result<(), Refusal> {
+    let even = buffer.len() % CELL_BYTES == 0;
+    demand(a.len() == A_BYTES && b.len() == B_BYTES && even, BAD_BUFFER)?;
+    let count = buffer.len() / CELL_BYTES;
+    demand(legal_modulus(u64::from(modulus)), BAD_MODULUS)?;
+    demand(count <= TERMS_LIMIT, TOO_MANY)?;
+    let claim = check_claim(u64::from(modulus), a, b, u64::from(l))?;
+    write_cells(buffer, &outputs(u64::from(modulus), &claim, count));
+    Ok(())
+}
+
+/// "Cell j is b_j less the sum of a_i times cell j-i, for i from 1 to the smaller
+/// of l and j, brought to 0 .. m-1 modulo m."
+pub fn outputs(m: u64, claim: &Register, count: usize) -> Vec<u64> {
+    let mut run: Vec<u64> = Vec::new();
+    for j in 0..count {
+        let sum: u64 = (1..=claim.length.min(j)).map(|i| claim.a[i] * run[j - i] % m).sum();
+        run.push((claim.b[j] + m - sum % m) % m);
+    }
+    run
+}
+
+// ---- slips, records, shelf ----
+
+/// The record of a slip that passed its checks.
+fn record_of(slip: &[u8], sequence: &Sequence) -> Vec<u8> {
+    let register = register_of(sequence.modulus, &sequence.terms);
+    record_with(slip, &register)
+}
+
+/// A slip, a length and the cells of a and b as a record.
+pub fn record_with(slip: &[u8], register: &Register) -> Vec<u8> {
+    let mut record = vec![0; RECORD_BYTES];
+    record[..SLIP_BYTES].copy_from_slice(slip);
+    write_cells(&mut record[RECORD_LENGTH_AT..RECORD_A_AT], &[register.length as u64]);
+    write_cells(&mut record[RECORD_A_AT..RECORD_B_AT], &register.a);
+    write_cells(&mut record[RECORD_B_AT..], &register.b);
+    record
+}
+
+/// Makes a record from a slip: 5 (slip, record), 1 to 4.
+pub fn synthesize(slip: &[u8], record: &mut [u8]) -> Result<(), Refusal> {
+    demand(slip.len() == SLIP_BYTES && record.len() == RECORD_BYTES, BAD_BUFFER)?;
+    let sequence = check_slip(slip)?;
+    record.copy_from_slice(&record_of(slip, &sequence));
+    Ok(())
+}
+
+/// Serves a slip from a shelf: 5 (slip, record), 1 to 4, 23, 24. "Serving looks
+/// for the first record whose first 260 bytes equal the slip's"; the first match
+/// alone decides.
+pub fn look_up(slip: &[u8], shelf: &[u8], record: &mut [u8]) -> Result<Served, Refusal> {
+    demand(slip.len() == SLIP_BYTES && record.len() == RECORD_BYTES, BAD_BUFFER)?;
+    let sequence = check_slip(slip)?;
+    demand(shelf.len() % RECORD_BYTES == 0, BAD_SHELF)?;
+    let mut records = shelf.chunks_exact(RECORD_BYTES);
+    let Some(index) = records.position(|entry| entry[..SLIP_BYTES] == *slip) else {
+        record.copy_from_slice(&record_of(slip, &sequence));
+        return Ok(Served::Made);
+    };
+    let found = &shelf[index * RECORD_BYTES..][..RECORD_BYTES];
+    check_record(&sequence, found)?;
+    record.copy_from_slice(found);
+    Ok(Served::Found(index))
+}
+
+/// 24: "the record found is a bad claim (as in 6) or its test against the slip
+/// says no".
+fn check_record(sequence: &Sequence, record: &[u8]) -> Result<(), Refusal> {
+    let l = cells(&record[RECORD_LENGTH_AT..RECORD_A_AT])[0];
+    let (a, b) = (&record[RECORD_A_AT..RECORD_B_AT], &record[RECORD_B_AT..]);
+    let claim = check_claim(sequence.modulus, a, b, l).map_err(|_| BAD_RECORD)?;
+    demand(verdict(sequence, &claim) == Verdict::Yes, BAD_RECORD)
+}
+
+/// A modulus and terms as a slip; more than 128 terms are not written.
+pub fn slip_of(modulus: u64, terms: &[u64]) -> Vec<u8> {
+    let mut numbers = vec![modulus, terms.len() as u64];
+    numbers.extend(terms);
+    numbers.resize(SLIP_BYTES / CELL_BYTES, 0);
+    let mut slip = vec![0; SLIP_BYTES];
+    write_cells(&mut slip, &numbers);
+    slip
+}

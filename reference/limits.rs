@@ -1,0 +1,29 @@
+//! The limits and sizes of document 01, each in one place.
+
+/// "m from 2 to 4,095": the largest legal modulus. The arithmetic is wide
+/// enough for any value up to 65,535.
+pub const MODULUS_LIMIT: u64 = 4095;
+
+/// "n from 0 to 128": terms of a slip, terms of a reading, cells to run, l of a claim.
+pub const TERMS_LIMIT: usize = 128;
+
+/// "a to 129 cells and b to 128"; the profile has 129 cells as well.
+pub const A_CELLS: usize = TERMS_LIMIT + 1;
+pub const B_CELLS: usize = TERMS_LIMIT;
+pub const PROFILE_CELLS: usize = TERMS_LIMIT + 1;
+
+/// "A cell is two bytes, low byte first."
+pub const CELL_BYTES: usize = 2;
+pub const A_BYTES: usize = A_CELLS * CELL_BYTES;
+pub const B_BYTES: usize = B_CELLS * CELL_BYTES;
+pub const PROFILE_BYTES: usize = PROFILE_CELLS * CELL_BYTES;
+
+/// "A slip is 260 bytes: modulus, count, 128 terms."
+pub const SLIP_BYTES: usize = 260;
+
+/// "A record is 776 bytes: the slip (0 to 259), length (260), a (262 to 519),
+/// b (520 to 775)."
+pub const RECORD_BYTES: usize = 776;
+pub const RECORD_LENGTH_AT: usize = 260;
+pub const RECORD_A_AT: usize = 262;
+pub const RECORD_B_AT: usize = 520;

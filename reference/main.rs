@@ -1,0 +1,75 @@
+//! The second program: written from the papers alone, to be compared with.
+//! README.md tells the commands and formats.
+
+mod calls;
+mod cases;
+mod compact;
+mod join;
+mod limits;
+mod linear;
+mod listing;
+mod random;
+mod residue;
+mod scenarios;
+mod script;
+mod selftest;
+mod sequences;
+mod steps;
+
+use std::io::{Read, Write};
+use std::process::ExitCode;
+
+const USAGE: &str = "usage: reference COMMAND
+  listing                 slips on standard input to the listing
+  replay                  a script on standard input to the expected text
+  slips SEED COUNT        random slips
+  calls SEED COUNT        a script of random lists of calls on a reading
+  candidates SEED COUNT   a script of random testings and runnings
+  catalogues SEED COUNT   a script of random servings and makings
+  selftest                checks this program against itself and the papers
+";
+
+fn main() -> ExitCode {
+    let arguments: Vec<String> = std::env::args().skip(1).collect();
+    let words: Vec<&str> = arguments.iter().map(String::as_str).collect();
+    match words[..] {
+        ["listing"] => with_input(|input| (listing::listing(input).into_bytes(), true)),
+        ["replay"] => with_input(|input| {
+            let (text, whole) = script::replay(input);
+            (text.into_bytes(), whole)
+        }),
+        ["slips", seed, count] => generated(seed, count, sequences::slips),
+        ["calls", seed, count] => generated(seed, count, scenarios::calls),
+        ["candidates", seed, count] => generated(seed, count, scenarios::candidates),
+        ["catalogues", seed, count] => generated(seed, count, scenarios::catalogues),
+        ["selftest"] => ExitCode::from(u8::from(!selftest::selftest())),
+        _ => usage(),
+    }
+}
+
+fn usage() -> ExitCode {
+    eprint!("{USAGE}");
+    ExitCode::from(2)
+}
+
+/// Reads all of standard input and writes what it leads to; 1 if it was not whole
+/// or could not be read or written.
+fn with_input(work: impl Fn(&[u8]) -> (Vec<u8>, bool)) -> ExitCode {
+    let mut input = Vec::new();
+    let read = std::io::stdin().read_to_end(&mut input).is_ok();
+    let (output, whole) = work(&input);
+    let wrote = write(&output);
+    ExitCode::from(u8::from(!(read && whole && wrote)))
+}
+
+fn generated(seed: &str, count: &str, make: fn(u64, u64) -> Vec<u8>) -> ExitCode {
+    match (seed.parse(), count.parse()) {
+        (Ok(seed), Ok(count)) => ExitCode::from(u8::from(!write(&make(seed, count)))),
+        _ => usage(),
+    }
+}
+
+fn write(bytes: &[u8]) -> bool {
+    let mut output = std::io::stdout().lock();
+    output.write_all(bytes).and_then(|()| output.flush()).is_ok()
+}

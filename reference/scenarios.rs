@@ -1,0 +1,433 @@
+//! Random scripts: lists of calls on a reading, candidates for testing and
+//! running, catalogues for serving and making.
+
+use crate::calls::{outputs, record_with, slip_of};
+use crate::join::{register as register_of, Register};
+use crate::limits::*;
+use crate::random::Random;
+use crate::script::{Call, Operation};
+use crate::sequences::{
+    any_slip, count, damage, good_slip, modulus, register, set_cell, structured, terms, uniform,
+};
+
+/// Numbers that no modulus, term or length may be; the last ones would pass if
+/// they were cut to two bytes.
+const WILD_MODULI: [u32; 8] = [0, 1, 4096, 65535, 65536, 65536 + 9, 0x0001_0002, u32::MAX];
+
+/// A buffer length that is mostly right, else 0, one less or one more.
+fn nearly(random: &mut Random, right: usize) -> u16 {
+    let length = match random.below(60) {
+        0 => 0,
+        1 => right.saturating_sub(1),
+        2 => right + 1,
+        _ => right,
+    };
+    length as u16
+}
+
+fn fill(random: &mut Random) -> u8 {
+    let any = random.byte();
+    random.pick(&[0, 0xff, 0xa5, any])
+}
+
+fn plain(random: &mut Random, operation: Operation, number: u32, lengths: [u16; 3]) -> Call {
+    Call { operation, fill: fill(random), number, lengths, l: 0, payload: Vec::new() }
+}
+
+/// Cuts or stretches the bytes to the length.
+fn fitted(bytes: &[u8], length: u16) -> Vec<u8> {
+    let mut bytes = bytes.to_vec();
+    bytes.resize(length as usize, 0);
+    bytes
+}
+
+fn written(calls: &[Call]) -> Vec<u8> {
+    calls.iter().flat_map(Call::bytes).collect()
+}
+
+// ---- lists of calls on a reading ----
+
+/// `calls SEED COUNT`: that many lists, each of which starts with an opening or a
+/// forged reading and ends with a report and a profile.
+pub fn calls(seed: u64, lists: u64) -> Vec<u8> {
+    let mut random = Random::new(seed);
+    let mut script = Vec::new();
+    for _ in 0..lists {
+        script.extend(written(&list(&mut random)));
+    }
+    script
+}
+
+fn list(random: &mut Random) -> Vec<Call> {
+    let m = modulus(random);
+    let mut list = vec![opening(random, m)];
+    for term in planned_terms(random, m) {
+        while random.once_in(8) {
+            list.push(side_call(random, m));
+        }
+        list.push(plain(random, Operation::Push, term as u32, [0; 3]));
+    }
+    while random.once_in(2) {
+        list.push(side_call(random, m));
+    }
+    list.push(plain(random, Operation::Register, 0, [A_BYTES as u16, B_BYTES as u16, 0]));
+    list.push(plain(random, Operation::Profile, 0, [PROFILE_BYTES as u16, 0, 0]));
+    list
+}
+
+/// Mostly a legal opening, sometimes a refused one or a forged reading.
+fn opening(random: &mut Random, m: u64) -> Call {
+    match random.below(24) {
+        0 => {
+            let wild = random.pick(&WILD_MODULI);
+            plain(random, Operation::Open, wild, [0; 3])
+        }
+        1 => forge(random),
+        _ => plain(random, Operation::Open, m as u32, [0; 3]),
+    }
+}
+
+/// Terms to offer; one list in eight goes past the 128th.
+fn planned_terms(random: &mut Random, m: u64) -> Vec<u64> {
+    let n = count(random);
+    if random.once_in(8) {
+        let mut planned = terms(random, m, TERMS_LIMIT);
+        let more = random.between(1, 4) as usize;
+        planned.extend(uniform(random, m + 2, more));
+        return planned;
+    }
+    terms(random, m, n)
+}
+
+/// A report, a profile, a term that is out of range, now and then a forged
+/// reading or another opening.
+fn side_call(random: &mut Random, m: u64) -> Call {
+    match random.below(100) {
+        0 => forge(random),
+        1 => opening(random, m),
+        2..=35 => {
+            let lengths = [nearly(random, A_BYTES), nearly(random, B_BYTES), 0];
+            plain(random, Operation::Register, 0, lengths)
+        }
+        36..=69 => {
+            let lengths = [nearly(random, PROFILE_BYTES), 0, 0];
+            plain(random, Operation::Profile, 0, lengths)
+        }
+        _ => {
+            let low = m as u32;
+            let term = random.pick(&[low, low + 1, 65535, 65536, 65537, low + 65536, u32::MAX]);
+            plain(random, Operation::Push, term, [0; 3])
+        }
+    }
+}
+
+/// A reading that is good, damaged, or plain noise.
+fn forge(random: &mut Random) -> Call {
+    let mut bytes = good_slip(random);
+    match random.below(4) {
+        0 => {}
+        1 => bytes = (0..SLIP_BYTES).map(|_| random.byte()).collect(),
+        _ => damage(random, &mut bytes),
+    }
+    let mut call = plain(random, Operation::Forge, 0, [SLIP_BYTES as u16, 0, 0]);
+    call.payload = bytes;
+    call
+}
+
+// ---- candidates for testing and running ----
+
+/// A slip, and a claim to hold against it or to run.
+struct Candidate {
+    m: u64,
+    slip: Vec<u8>,
+    a: Vec<u8>,
+    b: Vec<u8>,
+    l: u32,
+}
+
+/// `candidates SEED COUNT`: that many testings and runnings.
+pub fn candidates(seed: u64, count: u64) -> Vec<u8> {
+    let mut random = Random::new(seed);
+    let mut script = Vec::new();
+    for _ in 0..count {
+        let candidate = candidate(&mut random);
+        let call = if random.once_in(3) {
+            running(&mut random, candidate)
+        } else {
+            testing(&mut random, candidate)
+        };
+        script.extend(call.bytes());
+    }
+    script
+}
+
+fn candidate(random: &mut Random) -> Candidate {
+    let m = modulus(random);
+    let n = count(random);
+    let (terms, register) = claim(random, m, n);
+    let mut candidate = Candidate {
+        m,
+        slip: slip_of(m, &terms),
+        a: cells_of(&register.a),
+        b: cells_of(&register.b),
+        l: register.length as u32,
+    };
+    if random.once_in(3) {
+        spoil(random, &mut candidate);
+    }
+    if random.once_in(12) {
+        damage(random, &mut candidate.slip);
+    }
+    candidate
+}
+
+fn cells_of(numbers: &[u64]) -> Vec<u8> {
+    numbers.iter().flat_map(|&number| (number as u16).to_le_bytes()).collect()
+}
+
+/// Terms and a well-formed claim that mostly generates them.
+fn claim(random: &mut Random, m: u64, n: usize) -> (Vec<u64>, Register) {
+    match random.below(8) {
+        0..=2 => {
+            // The reported register, perhaps claimed longer than it is.
+            let terms = terms(random, m, n);
+            let mut register = register_of(m, &terms);
+            if random.once_in(3) {
+                register.length = random.between(register.length as u64, 128) as usize;
+            }
+            (terms, register)
+        }
+        3 => {
+            let terms = terms(random, m, n);
+            let register = trivial(&terms);
+            (terms, register)
+        }
+        4 => {
+            // Any register against any terms.
+            let length = random.below(20) as usize;
+            (terms(random, m, n), register(random, m, length))
+        }
+        5 => {
+            // The first differing place is likely to be a late one.
+            let (mut terms, register) = run_of_its_own(random, m, n);
+            if n > 0 {
+                let place = random.place(n);
+                terms[place] = random.below(m);
+            }
+            (terms, register)
+        }
+        _ => run_of_its_own(random, m, n),
+    }
+}
+
+/// A register of any length up to 128 and what it gives; l may exceed n.
+fn run_of_its_own(random: &mut Random, m: u64, n: usize) -> (Vec<u64>, Register) {
+    let longest = random.pick(&[4, 16, 128]);
+    let length = random.between(0, longest) as usize;
+    let register = register(random, m, length);
+    (outputs(m, &register, n), register)
+}
+
+/// "a = 1 with l = n and b = S. It generates, and is seldom least."
+fn trivial(terms: &[u64]) -> Register {
+    let mut register = Register { length: terms.len(), a: vec![0; A_CELLS], b: terms.to_vec() };
+    register.a[0] = 1;
+    register.b.resize(B_CELLS, 0);
+    register
+}
+
+/// Changes a claim in one place, so that it is bad or generates other terms.
+fn spoil(random: &mut Random, candidate: &mut Candidate) {
+    let l = candidate.l as usize;
+    let low = candidate.m as u16;
+    let value = random.pick(&[1, low - 1, low, low.saturating_add(1), 256, 65535]);
+    match random.below(8) {
+        0 => candidate.l = random.pick(&[129, 130, 255, 256, 65535, 65536, 65537, u32::MAX]),
+        1 => {
+            let wrong = random.pick(&[0, 2, low, 257, 65535]);
+            set_cell(&mut candidate.a, 0, wrong);
+        }
+        2 if l < A_CELLS - 1 => set_cell(&mut candidate.a, l + 1, value),
+        3 if l < B_CELLS => set_cell(&mut candidate.b, l, value),
+        4 => {
+            let place = random.place(A_CELLS);
+            set_cell(&mut candidate.a, place, value);
+        }
+        5 => {
+            let place = random.place(B_CELLS);
+            set_cell(&mut candidate.b, place, value);
+        }
+        6 if l > 0 => {
+            let other = random.below(candidate.m) as u16;
+            let place = random.between(1, l as u64) as usize;
+            set_cell(&mut candidate.a, place, other);
+        }
+        7 if l > 0 => candidate.l -= 1,
+        _ => {}
+    }
+}
+
+fn testing(random: &mut Random, candidate: Candidate) -> Call {
+    let lengths =
+        [nearly(random, SLIP_BYTES), nearly(random, A_BYTES), nearly(random, B_BYTES)];
+    let mut call = plain(random, Operation::Verify, candidate.l, lengths);
+    call.payload = fitted(&candidate.slip, lengths[0]);
+    call.payload.extend(fitted(&candidate.a, lengths[1]));
+    call.payload.extend(fitted(&candidate.b, lengths[2]));
+    call
+}
+
+fn running(random: &mut Random, candidate: Candidate) -> Call {
+    let cells = match random.below(12) {
+        0 => random.pick(&[257, 258, 259, 260, 512, 65535]),
+        1 => 2 * random.below(129) as u16 + 1,
+        2 => 0,
+        3..=5 => 256,
+        _ => 2 * random.below(129) as u16,
+    };
+    let lengths = [nearly(random, A_BYTES), nearly(random, B_BYTES), cells];
+    let m = if random.once_in(12) { random.pick(&WILD_MODULI) } else { candidate.m as u32 };
+    let mut call = plain(random, Operation::Generate, m, lengths);
+    call.l = candidate.l.min(65535) as u16;
+    call.payload = fitted(&candidate.a, lengths[0]);
+    call.payload.extend(fitted(&candidate.b, lengths[1]));
+    call
+}
+
+// ---- catalogues for serving and making ----
+
+/// `catalogues SEED COUNT`: that many servings and makings.
+pub fn catalogues(seed: u64, count: u64) -> Vec<u8> {
+    let mut random = Random::new(seed);
+    let mut script = Vec::new();
+    for _ in 0..count {
+        let call =
+            if random.once_in(4) { making(&mut random) } else { serving(&mut random) };
+        script.extend(call.bytes());
+    }
+    script
+}
+
+fn making(random: &mut Random) -> Call {
+    let slip = any_slip(random);
+    let lengths = [nearly(random, SLIP_BYTES), nearly(random, RECORD_BYTES), 0];
+    let mut call = plain(random, Operation::Synthesize, 0, lengths);
+    call.payload = fitted(&slip, lengths[0]);
+    call
+}
+
+fn serving(random: &mut Random) -> Call {
+    let m = modulus(random);
+    let n = count(random).min(if random.once_in(3) { 128 } else { 12 });
+    let query = (m, terms(random, m, n));
+    let mut slip = slip_of(m, &query.1);
+    let shelf = shelf(random, &query);
+    if random.once_in(12) {
+        damage(random, &mut slip);
+    }
+    let shelf_length = match random.below(16) {
+        0 => nearly(random, shelf.len()),
+        1 => (shelf.len() + SLIP_BYTES) as u16,
+        2 => (shelf.len() / 2) as u16,
+        _ => shelf.len() as u16,
+    };
+    let lengths = [nearly(random, SLIP_BYTES), shelf_length, nearly(random, RECORD_BYTES)];
+    let mut call = plain(random, Operation::LookUp, 0, lengths);
+    call.payload = fitted(&slip, lengths[0]);
+    call.payload.extend(fitted(&shelf, shelf_length));
+    call
+}
+
+/// Records end to end: mostly few, sometimes 84, the most that the script's two
+/// bytes can say.
+fn shelf(random: &mut Random, query: &(u64, Vec<u64>)) -> Vec<u8> {
+    let records = match random.below(20) {
+        0..=3 => 0,
+        4 => 84,
+        5 => random.between(8, 83),
+        _ => random.between(1, 6),
+    };
+    // On a long shelf the matches are rare, so that they stand at high numbers too.
+    let rare = if records > 8 { records } else { 3 };
+    let mut shelf = Vec::new();
+    for _ in 0..records {
+        let record = if random.once_in(rare) {
+            matching(random, query)
+        } else {
+            differing(random, query)
+        };
+        shelf.extend(record);
+    }
+    shelf
+}
+
+fn made(m: u64, terms: &[u64]) -> Vec<u8> {
+    record_with(&slip_of(m, terms), &register_of(m, terms))
+}
+
+/// A record whose first 260 bytes are the query's: as made, with another good
+/// candidate, with a bad one, or with one that fails its test.
+fn matching(random: &mut Random, (m, terms): &(u64, Vec<u64>)) -> Vec<u8> {
+    let mut record = made(*m, terms);
+    match random.below(10) {
+        0 => record = record_with(&slip_of(*m, terms), &trivial(terms)),
+        1 => {
+            let wrong = random.pick(&[0, 1, 127, 128, 129, 256, 65535]);
+            set_cell(&mut record[RECORD_LENGTH_AT..], 0, wrong);
+        }
+        2 => {
+            let place = random.place(A_CELLS);
+            let wrong = random.pick(&[0, 1, 2, *m as u16, 65535]);
+            set_cell(&mut record[RECORD_A_AT..], place, wrong);
+        }
+        3 => {
+            let place = random.place(terms.len().max(1));
+            let wrong = random.pick(&[0, 1, *m as u16 - 1, *m as u16, 256]);
+            set_cell(&mut record[RECORD_B_AT..], place, wrong);
+        }
+        4 => {
+            let place = random.place(1 + terms.len());
+            let wrong = random.below(*m) as u16;
+            set_cell(&mut record[RECORD_A_AT..], place, wrong);
+        }
+        _ => {}
+    }
+    record
+}
+
+/// A record of another slip: near to the query's or far from it.
+fn differing(random: &mut Random, (m, terms): &(u64, Vec<u64>)) -> Vec<u8> {
+    match random.below(8) {
+        0 => {
+            // One byte of the first 260 differs.
+            let mut record = made(*m, terms);
+            let edge = random.pick(&[0, 1, 2, 3, 4, 258, 259]);
+            let place = if random.once_in(2) { edge } else { random.place(SLIP_BYTES) };
+            record[place] ^= 1 << random.below(8);
+            record
+        }
+        1 | 2 => {
+            // The same terms under another modulus.
+            let least = terms.iter().max().map_or(2, |t| t + 1).max(2);
+            let other = random.between(least, MODULUS_LIMIT);
+            made(if other == *m { MODULUS_LIMIT } else { other }, terms)
+        }
+        3 => {
+            // One term less or, as a zero, one term more.
+            let mut other = terms.clone();
+            if random.once_in(2) || other.len() == TERMS_LIMIT {
+                other.pop();
+            } else {
+                other.push(0);
+            }
+            made(*m, &other)
+        }
+        4 => (0..RECORD_BYTES).map(|_| random.byte()).collect(),
+        _ => {
+            let other = modulus(random);
+            let n = random.place(10);
+            let terms = structured(random, other, n);
+            made(other, &terms)
+        }
+    }
+}

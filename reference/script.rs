@@ -1,0 +1,230 @@
+//! The byte script of calls, and its replay as text. README.md has the format.
+
+use crate::calls::{self, Reading, Refusal, Served, Verdict};
+use crate::limits::SLIP_BYTES;
+
+pub const HEADER_BYTES: usize = 16;
+
+/// The operations, each with its number in byte 0 of the header.
+#[derive(Clone, Copy, PartialEq, Eq, Debug)]
+pub enum Operation {
+    Open = 0,
+    Push = 1,
+    Register = 2,
+    Profile = 3,
+    Verify = 4,
+    Generate = 5,
+    Synthesize = 6,
+    LookUp = 7,
+    Forge = 8,
+}
+
+const OPERATIONS: [(Operation, &str); 9] = [
+    (Operation::Open, "open"),
+    (Operation::Push, "push"),
+    (Operation::Register, "register"),
+    (Operation::Profile, "profile"),
+    (Operation::Verify, "verify"),
+    (Operation::Generate, "generate"),
+    (Operation::Synthesize, "synthesize"),
+    (Operation::LookUp, "look_up"),
+    (Operation::Forge, "forge"),
+];
+
+/// One call of a script. `number` is the modulus, the term or the l of a test;
+/// `l` is the l of a run.
+#[derive(Clone, PartialEq, Eq, Debug)]
+pub struct Call {
+    pub operation: Operation,
+    pub fill: u8,
+    pub number: u32,
+    pub lengths: [u16; 3],
+    pub l: u16,
+    pub payload: Vec<u8>,
+}
+
+impl Call {
+    /// Which of the three buffers have their bytes in the payload; the others are
+    /// lent filled with the fill byte.
+    fn in_payload(operation: Operation) -> [bool; 3] {
+        match operation {
+            Operation::Verify => [true, true, true],
+            Operation::Generate | Operation::LookUp => [true, true, false],
+            Operation::Synthesize | Operation::Forge => [true, false, false],
+            _ => [false, false, false],
+        }
+    }
+
+    pub fn bytes(&self) -> Vec<u8> {
+        let mut bytes = vec![self.operation as u8, self.fill, 0, 0];
+        bytes.extend(self.number.to_le_bytes());
+        for length in self.lengths {
+            bytes.extend(length.to_le_bytes());
+        }
+        bytes.extend(self.l.to_le_bytes());
+        bytes.extend(&self.payload);
+        bytes
+    }
+
+    /// The first call of the script and how many bytes it has, or why there is none.
+    pub fn parse(script: &[u8]) -> Result<(Call, usize), String> {
+        let header = script.get(..HEADER_BYTES).ok_or("cut short")?;
+        let pair = |at: usize| u16::from_le_bytes([header[at], header[at + 1]]);
+        let named = OPERATIONS.get(header[0] as usize);
+        let (operation, _) = *named.ok_or(format!("unknown {}", header[0]))?;
+        let mut call = Call {
+            operation,
+            fill: header[1],
+            number: u32::from_le_bytes([header[4], header[5], header[6], header[7]]),
+            lengths: [pair(8), pair(10), pair(12)],
+            l: pair(14),
+            payload: Vec::new(),
+        };
+        // A reading that is forged has exactly the bytes of a slip.
+        if operation == Operation::Forge && call.lengths[0] as usize != SLIP_BYTES {
+            return Err(String::from("bad forge"));
+        }
+        let held = Call::in_payload(operation);
+        let size: usize = (0..3).filter(|&i| held[i]).map(|i| call.lengths[i] as usize).sum();
+        let payload = script.get(HEADER_BYTES..HEADER_BYTES + size).ok_or("cut short")?;
+        call.payload = payload.to_vec();
+        Ok((call, HEADER_BYTES + size))
+    }
+
+    /// The three buffers as they are lent.
+    fn buffers(&self) -> [Vec<u8>; 3] {
+        let held = Call::in_payload(self.operation);
+        let mut at = 0;
+        let mut buffers = [Vec::new(), Vec::new(), Vec::new()];
+        for (i, buffer) in buffers.iter_mut().enumerate() {
+            let length = self.lengths[i] as usize;
+            if held[i] {
+                buffer.extend(&self.payload[at..at + length]);
+                at += length;
+            } else {
+                buffer.resize(length, self.fill);
+            }
+        }
+        buffers
+    }
+}
+
+/// FNV-1a with 32 bits.
+pub fn hash(bytes: &[u8]) -> u32 {
+    let step = |state: u32, &byte: &u8| (state ^ u32::from(byte)).wrapping_mul(0x0100_0193);
+    bytes.iter().fold(0x811c_9dc5, step)
+}
+
+/// A reading as its 260 bytes: modulus, count, 128 terms.
+pub fn reading_bytes(reading: &Reading) -> Vec<u8> {
+    let mut bytes = Vec::new();
+    bytes.extend(reading.modulus.to_le_bytes());
+    bytes.extend(reading.count.to_le_bytes());
+    for term in reading.terms {
+        bytes.extend(term.to_le_bytes());
+    }
+    bytes
+}
+
+/// The reading with these 260 bytes, whatever they hold.
+pub fn reading_from(bytes: &[u8]) -> Reading {
+    let numbers = calls::cells(bytes);
+    let mut reading = calls::zero_reading();
+    reading.modulus = numbers[0] as u16;
+    reading.count = numbers[1] as u16;
+    for (cell, &number) in reading.terms.iter_mut().zip(&numbers[2..]) {
+        *cell = number as u16;
+    }
+    reading
+}
+
+/// The expected text, and whether the script was whole. The reading held at the
+/// start is the one of zeros.
+pub fn replay(script: &[u8]) -> (String, bool) {
+    let mut text = String::new();
+    let mut reading = calls::zero_reading();
+    let mut rest = script;
+    while !rest.is_empty() {
+        match Call::parse(rest) {
+            Ok((call, size)) => {
+                text.push_str(&line(&call, &mut reading));
+                text.push('\n');
+                rest = &rest[size..];
+            }
+            Err(fault) => {
+                text.push_str(&format!("script {fault}\n"));
+                return (text, false);
+            }
+        }
+    }
+    (text, true)
+}
+
+/// The name, the reply, and a hash for each writable thing that was lent.
+fn line(call: &Call, reading: &mut Reading) -> String {
+    let mut buffers = call.buffers();
+    let reply = match perform(call, reading, &mut buffers) {
+        Ok(reply) => reply,
+        Err(number) => format!("refused {number}"),
+    };
+    let [first, second, third] = &buffers;
+    let held = reading_bytes(reading);
+    let writable: Vec<&Vec<u8>> = match call.operation {
+        Operation::Open | Operation::Push | Operation::Forge => vec![&held],
+        Operation::Register => vec![first, second],
+        Operation::Profile => vec![first],
+        Operation::Verify => vec![],
+        Operation::Generate | Operation::LookUp => vec![third],
+        Operation::Synthesize => vec![second],
+    };
+    let mut line = format!("{} {}", OPERATIONS[call.operation as usize].1, reply);
+    for bytes in writable {
+        line.push_str(&format!(" {:08x}", hash(bytes)));
+    }
+    line
+}
+
+/// Makes the call and words its reply.
+fn perform(
+    call: &Call,
+    reading: &mut Reading,
+    [first, second, third]: &mut [Vec<u8>; 3],
+) -> Result<String, Refusal> {
+    let ok = |_: ()| String::from("ok");
+    match call.operation {
+        Operation::Open => {
+            let (opened, outcome) = calls::open(call.number);
+            *reading = opened;
+            outcome.map(ok)
+        }
+        Operation::Push => calls::push(reading, call.number).map(ok),
+        Operation::Register => {
+            calls::register(reading, first, second).map(|l| format!("length {l}"))
+        }
+        Operation::Profile => calls::profile(reading, first).map(ok),
+        Operation::Verify => calls::verify(first, second, third, call.number).map(verdict_word),
+        Operation::Generate => {
+            calls::generate(call.number, first, second, u32::from(call.l), third).map(ok)
+        }
+        Operation::Synthesize => calls::synthesize(first, second).map(ok),
+        Operation::LookUp => calls::look_up(first, second, third).map(served_word),
+        Operation::Forge => {
+            *reading = reading_from(first);
+            Ok(String::from("ok"))
+        }
+    }
+}
+
+fn verdict_word(verdict: Verdict) -> String {
+    match verdict {
+        Verdict::Yes => String::from("yes"),
+        Verdict::No(place) => format!("no {place}"),
+    }
+}
+
+fn served_word(served: Served) -> String {
+    match served {
+        Served::Found(index) => format!("found {index}"),
+        Served::Made => String::from("made"),
+    }
+}

@@ -1,0 +1,344 @@
+//! The self-test: one line for each group, with the number of checks.
+
+use crate::calls::*;
+use crate::cases;
+use crate::compact;
+use crate::join::{self, Register};
+use crate::limits::*;
+use crate::linear;
+use crate::listing::listing;
+use crate::random::Random;
+use crate::residue::{inverse, prime_powers};
+use crate::scenarios;
+use crate::script::replay;
+use crate::sequences;
+use crate::steps::{self, coefficient, length, Pair};
+use std::time::Instant;
+
+/// How many failures of a group are told in words.
+const TOLD: u64 = 5;
+
+/// Checks under one name.
+pub struct Group {
+    checks: u64,
+    failures: u64,
+}
+
+impl Group {
+    /// Counts a check; a failure is told by what `words` gives.
+    pub fn check(&mut self, holds: bool, words: impl FnOnce() -> String) {
+        self.checks += 1;
+        if !holds {
+            self.failures += 1;
+            if self.failures <= TOLD {
+                println!("  failed: {}", words());
+            }
+        }
+    }
+}
+
+/// Runs a group and prints its line; true if all its checks hold.
+fn group(name: &str, work: fn(&mut Group)) -> bool {
+    let start = Instant::now();
+    let mut group = Group { checks: 0, failures: 0 };
+    work(&mut group);
+    let word = if group.failures == 0 && group.checks > 0 { "ok" } else { "FAILED" };
+    let seconds = start.elapsed().as_secs_f64();
+    println!(
+        "{name}: {} checks, {} failed, {word} ({seconds:.1} s)",
+        group.checks, group.failures
+    );
+    group.failures == 0 && group.checks > 0
+}
+
+/// True if every group passes.
+pub fn selftest() -> bool {
+    let groups: [(&str, fn(&mut Group)); 14] = [
+        ("cases 1 to 15", cases::cases),
+        ("tables 1 and 2 of 000", cases::tables),
+        ("registers named in the papers", cases::named_registers),
+        ("orders of refusals", cases::refusals),
+        ("inverses, prime powers, remainders", arithmetic),
+        ("rows of the steps keep their congruence", rows),
+        ("full history and compact version agree", versions),
+        ("profile and linear algebra, short", linear_short),
+        ("profile and linear algebra, long", linear_long),
+        ("profile and linear algebra, moduli to 65,535", linear_wide),
+        ("profile and all lists of coefficients", tried),
+        ("reported registers", registers),
+        ("lists of calls, making and serving", desk),
+        ("scripts and listing", scripts),
+    ];
+    let mut passed = true;
+    for (name, work) in groups {
+        passed &= group(name, work);
+    }
+    println!("{}", if passed { "all groups passed" } else { "SOME GROUP FAILED" });
+    passed
+}
+
+/// Every unit of some prime powers, every number up to the limit, every residue
+/// of some products.
+fn arithmetic(group: &mut Group) {
+    for q in [2, 4, 9, 27, 125, 343, 1024, 2048, 2187, 4093] {
+        let p = prime_powers(q)[0].p;
+        for x in 0..q {
+            let found = inverse(x, q);
+            let right = found.map_or(x % p == 0, |y| y < q && x * y % q == 1);
+            group.check(right, || format!("inverse of {x} modulo {q}"));
+        }
+    }
+    for m in 2..=MODULUS_LIMIT {
+        let powers = prime_powers(m);
+        let product: u64 = powers.iter().map(|power| power.modulus()).product();
+        let rising = powers.windows(2).all(|two| two[0].p < two[1].p);
+        let prime = powers.iter().all(|power| (2..power.p).all(|d| power.p % d != 0));
+        group.check(product == m && rising && prime, || format!("prime powers of {m}"));
+    }
+    for m in [6, 12, 60, 2310, 4095] {
+        let powers = prime_powers(m);
+        for x in 0..m {
+            let parts: Vec<(u64, u64)> =
+                powers.iter().map(|power| (x % power.modulus(), power.modulus())).collect();
+            group.check(join::chinese_remainder(&parts) == x, || format!("{x} modulo {m}"));
+        }
+    }
+}
+
+/// A random legal modulus with terms of a random kind.
+fn sample(random: &mut Random, longest: usize) -> (u64, Vec<u64>) {
+    let m = sequences::modulus(random);
+    let n = random.between(0, longest as u64) as usize;
+    let terms = sequences::terms(random, m, n);
+    (m, terms)
+}
+
+/// (3) of 000 for every row before every step: a(0) = p^η, and S × a and b agree
+/// below x^k. Lengths fall with η and do not fall with k, (8), and are at most k.
+fn rows(group: &mut Group) {
+    let mut random = Random::new(11);
+    for _ in 0..2000 {
+        let (m, terms) = sample(&mut random, 40);
+        for history in join::histories(m, &terms) {
+            let power = history.power;
+            let q = power.modulus();
+            for (k, rows) in history.rows.iter().enumerate() {
+                let right = rows.iter().enumerate().all(|(eta, row)| {
+                    row.a[0] == power.power(eta)
+                        && length(row) <= k
+                        && (eta == 0 || length(row) <= length(&rows[eta - 1]))
+                        && (k == 0 || length(row) >= length(&history.rows[k - 1][eta]))
+                        && agrees(&terms, row, k, q)
+                });
+                group.check(right, || format!("rows modulo {q} at {k} for {terms:?}"));
+            }
+        }
+    }
+}
+
+/// S × a and b agree modulo q in the coefficients below n.
+fn agrees(terms: &[u64], pair: &Pair, n: usize, q: u64) -> bool {
+    (0..n).all(|j| steps::product_coefficient(terms, &pair.a, j, q) == coefficient(&pair.b, j))
+}
+
+/// Coefficient by coefficient, at each prime power.
+fn versions(group: &mut Group) {
+    let mut random = Random::new(12);
+    for round in 0..20000 {
+        let longest = if round % 20 == 0 { 128 } else { 30 };
+        let (m, terms) = sample(&mut random, longest);
+        for power in prime_powers(m) {
+            let history = steps::run(power, &terms);
+            let same = history.rows[terms.len()][0] == compact::synthesize(power, &terms);
+            group.check(same, || format!("{power:?} {terms:?}"));
+        }
+    }
+}
+
+/// Every l from 0 up is tried at every k.
+fn linear_short(group: &mut Group) {
+    let mut random = Random::new(13);
+    for _ in 0..60000 {
+        let (m, terms) = sample(&mut random, 14);
+        let profile = join::profile(m, &terms);
+        let right = (0..=terms.len()).all(|k| profile[k] == linear::least_length(m, &terms[..k]));
+        group.check(right, || format!("modulo {m}: {terms:?}"));
+    }
+}
+
+fn linear_long(group: &mut Group) {
+    let mut random = Random::new(14);
+    for round in 0..6000 {
+        let longest = if round % 20 == 0 { 128 } else { 48 };
+        let (m, mut terms) = sample(&mut random, longest);
+        if longest == 128 {
+            terms = sequences::terms(&mut random, m, 128);
+        }
+        let right = join::profile(m, &terms) == linear::profile(m, &terms);
+        group.check(right, || format!("modulo {m}: {terms:?}"));
+    }
+}
+
+/// The arithmetic is wide enough for what may come.
+fn linear_wide(group: &mut Group) {
+    let mut random = Random::new(15);
+    for _ in 0..4000 {
+        let m = random.pick(&[32768, 59049, 65521, 65535, 30030, 15625, 16807, 50625, 65534]);
+        let n = random.place(25);
+        let terms = sequences::terms(&mut random, m, n);
+        let right = join::profile(m, &terms) == linear::profile(m, &terms);
+        group.check(right, || format!("modulo {m}: {terms:?}"));
+        for power in prime_powers(m) {
+            let pair = &steps::run(power, &terms).rows[n][0];
+            let same = *pair == compact::synthesize(power, &terms);
+            group.check(same && agrees(&terms, pair, n, power.modulus()), || format!("{power:?}"));
+        }
+    }
+}
+
+/// All sequences for tiny m and n, directly modulo m.
+fn tried(group: &mut Group) {
+    let sizes = [
+        (2, 9), (3, 6), (4, 6), (5, 4), (6, 5), (7, 4), (8, 4), (9, 4), (10, 4), (12, 4), (16, 3),
+        (18, 3), (27, 3), (30, 3), (36, 2),
+    ];
+    for (m, n) in sizes {
+        let mut terms = vec![0; n];
+        loop {
+            let profile = join::profile(m, &terms);
+            let right = (0..=n).all(|k| profile[k] == linear::least_by_trying(m, &terms[..k]));
+            group.check(right, || format!("modulo {m}: {terms:?}: {profile:?}"));
+            if !linear::advance(&mut terms, m) {
+                break;
+            }
+        }
+    }
+}
+
+/// What a report promises: it generates, a_0 is 1, l is L of the pair and the last
+/// cell of the profile; a test says yes, a run gives the terms; the profile is that
+/// of the prefixes taken by themselves.
+fn registers(group: &mut Group) {
+    let mut random = Random::new(16);
+    for round in 0..6000 {
+        let (m, terms) = sample(&mut random, if round % 25 == 0 { 128 } else { 24 });
+        let n = terms.len();
+        let register = join::register(m, &terms);
+        let pair = Pair { a: register.a.clone(), b: register.b.clone() };
+        let profile = join::profile(m, &terms);
+        let words = || format!("modulo {m}: {terms:?}: {register:?}");
+        group.check(register.a[0] == 1 && agrees(&terms, &pair, n, m), words);
+        group.check(register.length == length(&pair) && register.length == profile[n], words);
+        group.check(below(&register, m), words);
+        group.check(outputs(m, &register, n) == terms, words);
+        let negatives: Vec<u64> =
+            (1..=register.length).map(|i| (m - register.a[i]) % m).collect();
+        group.check(linear::gives(&negatives, &terms, m), words);
+        if n <= 24 {
+            let alone = (0..=n).all(|k| join::register(m, &terms[..k]).length == profile[k]);
+            group.check(alone, words);
+        }
+    }
+}
+
+fn below(register: &Register, m: u64) -> bool {
+    register.a.iter().chain(&register.b).all(|&c| c < m)
+}
+
+/// A list of calls with refused ones among them, then the report, the record made
+/// and the record served agree, a test says yes and a run gives the terms.
+fn desk(group: &mut Group) {
+    let mut random = Random::new(17);
+    for _ in 0..3000 {
+        let (m, terms) = sample(&mut random, 30);
+        let (l, a, b) = report_after_calls(group, m, &terms);
+        let record = record_made(group, m, &terms);
+        let words = || format!("modulo {m}: {terms:?}");
+        group.check(record[RECORD_LENGTH_AT..RECORD_A_AT] == (l as u16).to_le_bytes(), words);
+        group.check(record[RECORD_A_AT..RECORD_B_AT] == a && record[RECORD_B_AT..] == b, words);
+        let slip = slip_of(m, &terms);
+        group.check(verify(&slip, &a, &b, l) == Ok(Verdict::Yes), words);
+        let mut run = vec![3; CELL_BYTES * terms.len()];
+        let ran = generate(m as u32, &a, &b, l, &mut run);
+        group.check(ran == Ok(()) && cells(&run) == terms, words);
+    }
+}
+
+/// The report after takings with refused calls between them.
+fn report_after_calls(group: &mut Group, m: u64, terms: &[u64]) -> (u32, Vec<u8>, Vec<u8>) {
+    let words = || format!("calls modulo {m}: {terms:?}");
+    let (mut reading, opened) = open(m as u32);
+    group.check(opened.is_ok(), words);
+    let (mut a, mut b) = (vec![0xa5; A_BYTES], vec![0x5a; B_BYTES]);
+    for &term in terms {
+        group.check(push(&mut reading, m as u32 + term as u32) == Err(BAD_TERM), words);
+        group.check(register(&reading, &mut a[1..], &mut b) == Err(BAD_BUFFER), words);
+        group.check(push(&mut reading, term as u32).is_ok(), words);
+    }
+    group.check(a == [0xa5; A_BYTES] && b == [0x5a; B_BYTES], words);
+    let l = register(&reading, &mut a, &mut b);
+    group.check(l.is_ok(), words);
+    (l.unwrap_or(0) as u32, a, b)
+}
+
+/// The record made for a slip, served alike from a shelf and from an empty one.
+fn record_made(group: &mut Group, m: u64, terms: &[u64]) -> Vec<u8> {
+    let words = || format!("records modulo {m}: {terms:?}");
+    let slip = slip_of(m, terms);
+    let mut record = vec![7; RECORD_BYTES];
+    group.check(synthesize(&slip, &mut record) == Ok(()), words);
+    group.check(record[..SLIP_BYTES] == slip, words);
+    let shelf = [made_for(m, &[1, 0, 1]), record.clone(), made_for(m, terms)].concat();
+    let mut served = vec![9; RECORD_BYTES];
+    let expected = Served::Found(usize::from(terms != [1, 0, 1]));
+    group.check(look_up(&slip, &shelf, &mut served) == Ok(expected), words);
+    group.check(served == record, words);
+    group.check(look_up(&slip, &[], &mut served) == Ok(Served::Made), words);
+    group.check(served == record, words);
+    record
+}
+
+fn made_for(m: u64, terms: &[u64]) -> Vec<u8> {
+    record_with(&slip_of(m, terms), &join::register(m, terms))
+}
+
+/// A seed gives the same bytes and a script the same text, also when it is cut.
+fn scripts(group: &mut Group) {
+    let makers: [(&str, fn(u64, u64) -> Vec<u8>); 3] = [
+        ("calls", scenarios::calls),
+        ("candidates", scenarios::candidates),
+        ("catalogues", scenarios::catalogues),
+    ];
+    let mut random = Random::new(18);
+    for (name, make) in makers {
+        for seed in 0..40 {
+            let script = make(seed, 8);
+            group.check(script == make(seed, 8), || format!("{name} {seed}: bytes"));
+            let (text, whole) = replay(&script);
+            group.check(whole && text == replay(&script).0, || format!("{name} {seed}: text"));
+            let (cut, _) = replay(&script[..random.place(script.len())]);
+            let begun = cut.strip_suffix("script cut short\n").unwrap_or(&cut);
+            group.check(text.starts_with(begun), || format!("{name} {seed}: cut"));
+        }
+    }
+    group.check(replay(&[]) == (String::new(), true), || String::from("no calls"));
+    group.check(replay(&[9; 16]).0 == "script unknown 9\n", || String::from("unknown"));
+    listings(group);
+}
+
+/// The listing of random slips and of pieces of every size.
+fn listings(group: &mut Group) {
+    for seed in 0..40 {
+        let slips = sequences::slips(seed, 10);
+        let text = listing(&slips);
+        group.check(text.lines().count() == 11, || format!("lines of seed {seed}"));
+        group.check(text.ends_with('\n'), || format!("end of seed {seed}"));
+        group.check(slips == sequences::slips(seed, 10), || format!("slips of seed {seed}"));
+    }
+    let header = "modulus count order register\n";
+    group.check(listing(&[]) == header, || String::from("no slips"));
+    for size in 1..SLIP_BYTES {
+        let text = listing(&vec![0; size]);
+        group.check(text == format!("{header}refused 5\n"), || format!("{size} bytes"));
+    }
+}
