@@ -1,16 +1,15 @@
 -- Laws of lists made by a rule for their entries.
 -- Assumes nothing.
 use mathlib.Core.Path.{_≡_, refl, sym, ap, ap₂, _∙_}
-use mathlib.Core.List.{List, [], _∷_, map}
-use mathlib.Core.Logic.{_⊎_, inl, inr}
-use Prim.Native.Nat.{ℕ, zero, suc, _+_, _≤_, _<_, max}
-use native.Mathlib.Nat.{le-of-suc-le-suc, not-suc-le-zero, lt-irrefl, le-trans}
+use mathlib.Core.List.{List, [], _∷_}
+use Prim.Native.Nat.{ℕ, zero, suc, _+_, _≤_, _<_}
+use native.Mathlib.Nat.{not-suc-le-zero, lt-irrefl, le-trans}
 use native.Mathlib.Decide.{decLt}
 use native.Mathlib.Omega.{arith}
 use lib.ListN.{length, getD, set, length-set, List·getD-eq-default}
 use lib.Seq.{ext-getD, getD-set-same, getD-set-other}
 use borrow.Author.Count.{below-more}
-use Rattle.lists.specs.Table.{at, tabulate, largest}
+use Rattle.lists.specs.Table.{at, tabulate}
 
 pub length-tabulate {ℓ} : {A : Type ℓ} (n : ℕ) (f : ℕ → A) → length (tabulate n f) ≡ n
 unfolding tabulate
@@ -72,10 +71,3 @@ module _ {A : Type 0} {d : A} {f : ℕ → A} {n : ℕ} where
 
   pub filled-all : {i : ℕ} {xs : List A} → Filled d f n i xs → n ≤ i → xs ≡ tabulate n f
   filled-all {xs = xs} h k = is-tabulate n f d xs (h .size) (λ j l. h .done j (le-trans l k))
-
--- ---- the largest of some numbers
-
-pub largest-most : {A : Type 0} (f : A → ℕ) (l : ℕ) (xs : List A) → ((x : A) → f x ≤ l) → largest (map f xs) ≤ l
-unfolding largest
-largest-most f l [] h = omega arith
-largest-most f l (x ∷ xs) h = omega (arith, h x, largest-most f l xs h)

@@ -6,3 +6,5 @@ pub mod Polynomial
 pub mod Steps
 pub mod Length
 pub mod Theorem
+pub mod Register
+pub mod Running

@@ -14,6 +14,9 @@ pub record Register : Type 0 where
   pub a : List ℕ
   pub b : List ℕ
 
+abbrev pub pairOf : Register → Pair
+pairOf x = record { a = x .a; b = x .b }
+
 -- a pair with the modulus that it is for
 pub record Part : Type 0 where
   pub modulus : ℕ

@@ -12,12 +12,13 @@ use lib.Dec.{leb, eqb}
 use borrow.Author.Tests.{eq-eqb, eqb-true, le-leb, leb-true, leb-false}
 use Rattle.lists.specs.Choice.{both}
 use Rattle.lists.specs.Search.{first}
+use Rattle.lists.proofs.Among.{Among, here, there}
 use Rattle.lists.proofs.Search.{both-left, both-right, both-true, first-le, first-passes, first-before, first-found, lt-or-le, false-true}
 use Rattle.residue.specs.Congruence.{Cong}
 use Rattle.residue.specs.Units.{Prime, Coprime}
 use Rattle.residue.specs.Valuation.{valuation}
 use Rattle.residue.specs.Factors.{leastDivisor, PrimePower, value, leastPower, powersUpTo, primePowers}
-use Rattle.residue.proofs.Congruence.{pow-lt}
+use Rattle.residue.proofs.Congruence.{pow-lt, cong-left, cong-right}
 use Rattle.residue.proofs.Valuation.{Parts, valuation-parts}
 
 -- ---- the least divisor
@@ -141,6 +142,21 @@ factored-upto (suc f) m pos fuel = go (leb m 1) refl (λ r a b. factored-upto f 
 pub factored : (m : ℕ) → zero < m → Factored m (primePowers m)
 unfolding primePowers
 factored m pos = factored-upto m m pos (le-refl m)
+
+-- ---- a fact at every prime power
+
+pub among-prime : {m : ℕ} {fs : List PrimePower} {f : PrimePower} → Factored m fs → Among f fs → Prime (f .prime)
+among-prime (more P e h pos F) here = P
+among-prime (more P e h pos F) (there k) = among-prime F k
+
+pub among-exponent : {m : ℕ} {fs : List PrimePower} {f : PrimePower} → Factored m fs → Among f fs → zero < f .exponent
+among-exponent (more P e h pos F) here = e
+among-exponent (more P e h pos F) (there k) = among-exponent F k
+
+-- a congruence modulo m holds at each of its prime powers
+pub among-cong : {m : ℕ} {fs : List PrimePower} {f : PrimePower} {x y : ℕ} → Factored m fs → Among f fs → Cong m x y → Cong (value f) x y
+among-cong (more {rest = R} {f = f} P e h pos F) here c = cong-left (value f) R c
+among-cong (more {rest = R} {f = f} P e h pos F) (there k) c = among-cong F k (cong-right (value f) R c)
 
 -- each prime of the list is above the one before it
 pub data Rising : ℕ → List PrimePower → Type 0 where

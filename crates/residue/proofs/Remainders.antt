@@ -12,6 +12,7 @@ use lib.Dec.{eqb}
 use lib.Arith.{digits-lt}
 use borrow.Author.Tests.{eq-eqb, eqb-true}
 use Rattle.lists.specs.Search.{first, every}
+use Rattle.lists.proofs.Among.{Among, here, there}
 use Rattle.lists.proofs.Search.{first-found, first-only, every-cons, every-head, every-tail}
 use Rattle.residue.specs.Congruence.{Cong, neg}
 use Rattle.residue.specs.Units.{Prime, inverse}
@@ -124,6 +125,13 @@ rest-invertible {R} f P e h pos =
     coprime-invertible (value f) R (q-pos (f .prime) (f .exponent) (P .big)) pos
     (λ d x y. prime-power-coprime (f .prime) (f .exponent) R P e h d y x)
 
+-- congruent at every prime power, congruent modulo m
+pub cong-factored : {m : ℕ} {fs : List PrimePower} (x y : ℕ) → Factored m fs → ((f : PrimePower) → Among f fs → Cong (value f) x y) → Cong m x y
+cong-factored x y one h = record { same = mod-one x ∙ sym (mod-one y) }
+cong-factored x y (more {rest = R} {f = f} P e n pos F) h =
+    product (value f) R (q-pos (f .prime) (f .exponent) (P .big)) pos (rest-invertible f P e n pos) x y (h f here)
+    (cong-factored x y F (λ g k. h g (there k)))
+
 module _ (r : PrimePower → ℕ) where
   -- what is congruent modulo m leaves the same remainders
   pub leaves-cong : {m : ℕ} {fs : List PrimePower} (x y : ℕ) → Factored m fs → Cong m x y → Leaves y (rests r fs) → Leaves x (rests r fs)
@@ -137,22 +145,32 @@ module _ (r : PrimePower → ℕ) where
       product (value f) R (q-pos (f .prime) (f .exponent) (P .big)) pos (rest-invertible f P e h pos) x y
       (record { same = lx ∙ sym ly }) (factored-decides F x y lxs lys)
 
-  pub factored-some : {m : ℕ} {fs : List PrimePower} → Factored m fs → ((f : PrimePower) → r f < value f) → (x : ℕ) × (x < m) × Leaves x (rests r fs)
+  pub factored-some : {m : ℕ} {fs : List PrimePower} → Factored m fs → ((f : PrimePower) → Prime (f .prime) → zero < f .exponent → r f < value f) → (x : ℕ) × (x < m) × Leaves x (rests r fs)
   factored-some one small = (zero, le-refl 1, none)
   factored-some (more {rest = R} {f = f} P e h pos F) small =
       let y = factored-some F small in
       let v = rest-invertible f P e h pos in
       let x = glue (value f) R (r f) (y .0) in (
         x,
-        glue-lt (value f) R pos v (r f) (y .0) (small f),
-        also (glue-left (value f) R pos v (r f) (y .0) .same ∙ mod-eq-of-lt (small f))
+        glue-lt (value f) R pos v (r f) (y .0) (small f P e),
+        also (glue-left (value f) R pos v (r f) (y .0) .same ∙ mod-eq-of-lt (small f P e))
             (leaves-cong x (y .0) F (glue-right (value f) R pos v (r f) (y .0)) (y .2)),
       )
 
   -- the joined number is below m and leaves the remainders
-  pub factored-joined : {m : ℕ} {fs : List PrimePower} → Factored m fs → ((f : PrimePower) → r f < value f)
+  pub factored-joined : {m : ℕ} {fs : List PrimePower} → Factored m fs → ((f : PrimePower) → Prime (f .prime) → zero < f .exponent → r f < value f)
       → (joined m (rests r fs) < m) × Leaves (joined m (rests r fs)) (rests r fs)
   factored-joined {m} {fs} F small = let x = factored-some F small in joined-leaves m (rests r fs) (x .0) (x .1) (x .2)
+
+  -- its remainder at each of the prime powers
+  pub leaves-at : {fs : List PrimePower} {f : PrimePower} (x : ℕ) → Among f fs → Leaves x (rests r fs) → x % value f ≡ r f
+  leaves-at x here (also l ls) = l
+  leaves-at x (there h) (also l ls) = leaves-at x h ls
+
+  -- a number with the right remainder at each prime power leaves them all
+  pub leaves-all : (fs : List PrimePower) (x : ℕ) → ((f : PrimePower) → Among f fs → x % value f ≡ r f) → Leaves x (rests r fs)
+  leaves-all [] x h = none
+  leaves-all (f ∷ fs) x h = also (h f here) (leaves-all fs x (λ g k. h g (there k)))
 
 -- ---- two remainders, as the code joins them
 
