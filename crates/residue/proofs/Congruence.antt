@@ -3,7 +3,7 @@
 use mathlib.Core.Path.{_≡_, refl, sym, ap, ap₂, _∙_}
 use mathlib.Core.Logic.{_⊎_, inl, inr}
 use Prim.Native.Nat.{ℕ, zero, suc, _+_, _*_, _-_, _/_, _%_, _^_, _≤_, _<_}
-use native.Mathlib.Nat.{mod-add-div', add-mul-mod-self-right, add-mod, mod-mod, mod-eq-of-lt, mod-lt, zero-mod, mod-self, mul-mod-left}
+use native.Mathlib.Nat.{mod-add-div', add-mul-mod-self-right, add-mod, add-mod-right, mod-mod, mod-eq-sub-mod, mod-eq-of-lt, mod-lt, zero-mod, mod-self, mul-mod-left}
 use native.Mathlib.Nat.{mod-mod-of-dvd, dvd-mul-right, dvd-mul-left, mul-comm, mul-assoc, add-mul, mul-one, one-mul, one-le-pow, pow-suc, pow-le-pow-right, mul-lt-mul-of-pos-left, lt-of-lt-of-le, add-sub-of-le}
 use native.Mathlib.Omega.{arith}
 use lib.Pow.{pow-add}
@@ -124,3 +124,23 @@ cong-left q r {x} {y} h =
 pub cong-right : (q r : ℕ) {x y : ℕ} → Cong (q * r) x y → Cong r x y
 cong-right q r {x} {y} h =
     record { same = sym (mod-mod-of-dvd r x (dvd-mul-left r q)) ∙ ap (λ (z : ℕ). z % r) (h .same) ∙ mod-mod-of-dvd r y (dvd-mul-left r q) }
+
+-- ---- sums and differences of numbers below m, with no division
+
+module _ (x y m : ℕ) (hx : x < m) (hy : y < m) where
+  pub sum-over : m ≤ x + y → x + y - m ≡ (x + y) % m
+  sum-over h = sym (mod-eq-sub-mod h ∙ mod-eq-of-lt (omega arith))
+
+  neg-below : neg m y ≡ m - y
+  unfolding neg
+  neg-below = ap (λ (k : ℕ). m - k) (mod-eq-of-lt hy)
+
+  pub difference : y ≤ x → x - y ≡ (x + neg m y) % m
+  difference h =
+      sym (ap (λ (k : ℕ). (x + k) % m) neg-below ∙ ap (λ (k : ℕ). k % m) (let e : x + (m - y) ≡ x - y + m = omega arith in e)
+      ∙ add-mod-right (x - y) m ∙ mod-eq-of-lt (omega arith))
+
+  pub difference-under : x < y → x + m - y ≡ (x + neg m y) % m
+  difference-under h =
+      sym (ap (λ (k : ℕ). (x + k) % m) neg-below ∙ ap (λ (k : ℕ). k % m) (let e : x + (m - y) ≡ x + m - y = omega arith in e)
+      ∙ mod-eq-of-lt (omega arith))

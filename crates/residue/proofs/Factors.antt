@@ -16,10 +16,10 @@ use Rattle.lists.proofs.Among.{Among, here, there}
 use Rattle.lists.proofs.Search.{both-left, both-right, both-true, first-le, first-passes, first-before, first-found, lt-or-le, false-true}
 use Rattle.residue.specs.Congruence.{Cong}
 use Rattle.residue.specs.Units.{Prime, Coprime}
-use Rattle.residue.specs.Valuation.{valuation}
+use Rattle.residue.specs.Valuation.{valuation, cofactor}
 use Rattle.residue.specs.Factors.{leastDivisor, PrimePower, value, leastPower, powersUpTo, primePowers}
 use Rattle.residue.proofs.Congruence.{pow-lt, cong-left, cong-right}
-use Rattle.residue.proofs.Valuation.{Parts, valuation-parts}
+use Rattle.residue.proofs.Valuation.{Parts, valuation-parts, cofactor-of}
 
 -- ---- the least divisor
 
@@ -116,6 +116,28 @@ module _ (m : ℕ) (h : 1 < m) where
 
   pub rest-lt : m / value (leastPower m) < m
   rest-lt = omega (arith, rest-pos, least-whole, mul-le-mul-right (m / value (leastPower m)) least-value)
+
+  pub value-most : value (leastPower m) ≤ m
+  value-most = omega (arith, least-whole, mul-le-mul-left (value (leastPower m)) rest-pos)
+
+-- the same from a least divisor p, its power in m and their product
+module _ (m p u : ℕ) (h : 1 < m) (hp : p ≡ leastDivisor m) (hu : u ≡ valuation m p m) where
+  is-exponent : u ≡ leastPower m .exponent
+  unfolding leastPower
+  is-exponent = hu ∙ ap (λ (k : ℕ). valuation m k m) hp
+
+  is-value : p ^ u ≡ value (leastPower m)
+  unfolding leastPower
+  is-value = ap₂ _^_ hp is-exponent
+
+  pub power-most : p ^ u ≤ m
+  power-most = omega (arith, is-value, value-most m h)
+
+  pub is-least-power : (v θ : ℕ) → v ≡ p ^ u → θ ≡ cofactor m p m
+      → (p ≡ leastPower m .prime) × (u ≡ leastPower m .exponent) × (v ≡ value (leastPower m)) × (θ ≡ m / value (leastPower m))
+  unfolding leastPower
+  is-least-power v θ hv hθ =
+      (hp, is-exponent, hv ∙ is-value, hθ ∙ cofactor-of m p m (omega arith) ∙ ap (λ (k : ℕ). m / p ^ k) (sym hu) ∙ ap (λ (k : ℕ). m / k) is-value)
 
 -- ---- factorization
 

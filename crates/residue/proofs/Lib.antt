@@ -3,3 +3,5 @@ pub mod Units
 pub mod Valuation
 pub mod Factors
 pub mod Remainders
+pub mod Reduction
+pub mod Divisors

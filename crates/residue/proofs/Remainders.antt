@@ -5,7 +5,7 @@ use mathlib.Core.Logic.{_≢_}
 use mathlib.Core.Bool.{Bool, true, false}
 use mathlib.Core.List.{List, [], _∷_, map}
 use Prim.Native.Nat.{ℕ, zero, suc, _+_, _*_, _-_, _/_, _%_, _^_, _≤_, _<_}
-use native.Mathlib.Nat.{le-refl, mod-lt, mod-eq-of-lt, mod-one, zero-mod, div-add-mod'}
+use native.Mathlib.Nat.{le-refl, mod-lt, mod-mod, mod-eq-of-lt, mod-one, zero-mod, div-add-mod', mul-le-mul-right}
 use native.Mathlib.Decide.{decLe}
 use native.Mathlib.Omega.{arith}
 use lib.Dec.{eqb}
@@ -15,11 +15,11 @@ use Rattle.lists.specs.Search.{first, every}
 use Rattle.lists.proofs.Among.{Among, here, there}
 use Rattle.lists.proofs.Search.{first-found, first-only, every-cons, every-head, every-tail}
 use Rattle.residue.specs.Congruence.{Cong, neg}
-use Rattle.residue.specs.Units.{Prime, inverse}
+use Rattle.residue.specs.Units.{Prime, Coprime, inverse}
 use Rattle.residue.specs.Factors.{PrimePower, value}
 use Rattle.residue.specs.Remainders.{Remainder, joined, two}
 use Rattle.residue.proofs.Congruence.{rfl, of-eq, sy, tr, add, mul, modulo, multiple, self, zero-l, same-below, add-neg, cancel, cong-left, cong-right, Invertible, unit-cancel, q-pos}
-use Rattle.residue.proofs.Units.{inverse-inverts, prime-invertible, prime-power-coprime, coprime-invertible}
+use Rattle.residue.proofs.Units.{inverse-inverts, inverse-lt, prime-invertible, prime-power-coprime, coprime-invertible}
 use Rattle.residue.proofs.Factors.{Factored, one, more}
 
 -- ---- two moduli, the first a unit modulo the second
@@ -76,6 +76,14 @@ module _ (q r : ℕ) (rpos : zero < r) (v : Invertible r q) where
   glue-lt x y h =
       let s = (y + neg r x) * inverse r q % r in
       omega (arith, digits-lt {q = s} {m = r} {r = x} {c = q} (mod-lt ((y + neg r x) * inverse r q) rpos) h)
+
+-- the same from the difference d and the factor s, each a remainder modulo r
+pub glue-of : (q r x y d s i : ℕ) → d ≡ (y + neg r (x % r)) % r → s ≡ d * i % r → i ≡ inverse r q → x + q * s ≡ glue q r x y
+unfolding glue neg
+glue-of q r x y d s i hd hs hi = ap (λ (k : ℕ). x + q * k) (hs ∙ step .same)
+  where
+    step : Cong r (d * i) ((y + neg r x) * inverse r q)
+    step = mul (tr (of-eq hd) (tr (modulo (y + neg r (x % r))) (of-eq (ap (λ (k : ℕ). y + (r - k)) (mod-mod x r))))) (of-eq hi)
 
 -- ---- the number with given remainders
 
@@ -182,3 +190,26 @@ two-joined q r x y hx hy v =
     only : Decides (q * r) (two q x r y)
     only u w (also a (also b none)) (also c (also d none)) =
         product q r (omega arith) (omega arith) v u w (record { same = a ∙ sym c }) (record { same = b ∙ sym d })
+
+-- ---- what the code of the join has of its numbers
+
+-- the second factor is at most the product
+pub factor-right : (q r : ℕ) → zero < q → r ≤ q * r
+factor-right q r h = omega (arith, mul-le-mul-right r h)
+
+-- what is equal to a remainder is below the modulus
+pub rest-below : (d x m : ℕ) → zero < m → d ≡ x % m → d < m
+rest-below d x m h e = omega (arith, mod-lt x h)
+
+pub join-lt : (q r x s : ℕ) → x < q → s < r → x + q * s < q * r
+join-lt q r x s hx hs = omega (arith, digits-lt {q = s} {m = r} {r = x} {c = q} hs hx)
+
+module _ (q r x y : ℕ) (hx : x < q) (hy : y < r) (co : Coprime q r) where
+  unit : Invertible r q
+  unit = coprime-invertible q r (omega arith) (omega arith) co
+
+  pub joiner-lt : inverse r q < r
+  joiner-lt = inverse-lt r q (omega arith) unit
+
+  pub join-is : (d s i : ℕ) → d ≡ (y + neg r (x % r)) % r → s ≡ d * i % r → i ≡ inverse r q → x + q * s ≡ joined (q * r) (two q x r y)
+  join-is d s i hd hs hi = glue-of q r x y d s i hd hs hi ∙ two-joined q r x y hx hy unit

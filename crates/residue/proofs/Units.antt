@@ -130,6 +130,28 @@ module _ (q t : ℕ) (pos : zero < q) (v : Invertible q t) where
   pub is-inverse : (x : ℕ) → x < q → Cong q (t * x) 1 → x ≡ inverse q t
   is-inverse x h e = same-below h inverse-lt (inverses-agree q t x (inverse q t) e inverse-inverts)
 
+-- what Euclid's division finds is the inverse
+pub bezout-inverse : (a m x y : ℕ) → zero < a → a < m → Bezout a m x y → x ≡ inverse m a
+bezout-inverse a m x y pos lt b =
+    is-inverse m a (omega arith) (record { inverse = x; inverts = bezout-inverts a m x y b }) x (below (ℕ-discrete x m)) (bezout-inverts a m x y b)
+  where
+    none : (k : ℕ) → m * k ≡ 1 → ⊥
+    none zero e = omega arith
+    none (suc k) e = omega arith
+
+    below : Dec (x ≡ m) → x < m
+    below (yes e) = absurd (none y (omega (arith, b .whole, ap (λ (k : ℕ). a * k) e)))
+    below (no f) = omega (arith, b .x-most)
+
+-- the inverse hangs on the remainder alone
+pub inverse-mod : (q t : ℕ) → zero < q → Invertible q t → inverse q (t % q) ≡ inverse q t
+inverse-mod q t pos v =
+    is-inverse q t pos v (inverse q (t % q)) (inverse-lt q (t % q) pos w)
+    (tr (mul (sy (modulo t)) rfl) (inverse-inverts q (t % q) pos w))
+  where
+    w : Invertible q (t % q)
+    w = record { inverse = v .inverse; inverts = tr (mul (modulo t) rfl) (v .inverts) }
+
 -- ---- primes
 
 prime-coprime : (p t : ℕ) → Prime p → t % p ≢ zero → Coprime t p

@@ -4,6 +4,7 @@ use mathlib.Core.Path.{_≡_, refl, sym, ap, _∙_, subst}
 use mathlib.Core.Logic.{_≢_}
 use Prim.Native.Nat.{ℕ, zero, suc, _+_, _*_, _-_, _/_, _%_, _^_, _≤_, _<_}
 use native.Mathlib.Nat.{mod-eq-of-lt, zero-mod, zero-div, div-add-mod', div-one, div-le-self, div-lt-iff-lt-mul, div-div-eq-div-mul, pow-suc, pow-succ', pow-zero, mul-assoc, mul-comm, mul-one, one-mul, zero-mul}
+use native.Mathlib.Numerals.{add-one}
 use native.Mathlib.Omega.{arith}
 use Rattle.residue.specs.Congruence.{Cong}
 use Rattle.residue.specs.Units.{Prime, inverse}
@@ -129,3 +130,48 @@ module _ (p e : ℕ) (P : Prime p) (pos : zero < e) where
 
   pub valuation-lt : (d : ℕ) → d < p ^ e → zero < d → valuation e p d < e
   valuation-lt d lt h = valuation-parts e p d (P .big) h lt .below
+
+-- ---- the loop that divides by p
+
+-- d has been divided by p u times, and θ is left
+pub record Weighing (p e d u θ : ℕ) : Type 0 where
+  pub few : u ≤ e
+  pub more : valuation e p d ≡ u + valuation (e - u) p θ
+  pub left : d / p ^ u ≡ θ
+
+module _ (p e d : ℕ) where
+  pub weighing-start : Weighing p e d zero d
+  weighing-start =
+      record {
+        few = omega arith;
+        more = ap (λ (x : ℕ). valuation x p d) (let z : e ≡ e - zero = omega arith in z) ∙ omega arith;
+        left = ap (λ (x : ℕ). d / x) (pow-zero p) ∙ div-one d;
+      }
+
+  pub weighing-next : (u θ : ℕ) → Weighing p e d u θ → u < e → θ % p ≡ zero → Weighing p e d (u + 1) (θ / p)
+  weighing-next u θ w l z =
+      record {
+        few = omega arith;
+        more =
+            w .more ∙ ap (λ (x : ℕ). u + valuation x p θ) (let y : e - u ≡ suc (e - (u + 1)) = omega arith in y)
+            ∙ ap (λ (x : ℕ). u + x) (valuation-more (e - (u + 1)) p θ z) ∙ omega arith;
+        left =
+            ap (λ (x : ℕ). d / x) (ap (λ (x : ℕ). p ^ x) (add-one u) ∙ pow-suc p u)
+            ∙ sym (div-div-eq-div-mul d (p ^ u) p) ∙ ap (λ (x : ℕ). x / p) (w .left);
+      }
+
+  weighed : (u θ : ℕ) → zero < d → Weighing p e d u θ → valuation (e - u) p θ ≡ zero → (u ≡ valuation e p d) × (θ ≡ cofactor e p d)
+  weighed u θ pos w none =
+      let same : u ≡ valuation e p d = omega (arith, w .more) in
+      (same, sym (w .left) ∙ ap (λ (x : ℕ). d / p ^ x) same ∙ sym (cofactor-of e p d pos))
+
+  pub weighing-stop : (u θ : ℕ) → zero < d → Weighing p e d u θ → θ % p ≢ zero → (u ≡ valuation e p d) × (θ ≡ cofactor e p d)
+  weighing-stop u θ pos w z = weighed u θ pos w (valuation-stop (e - u) p θ z)
+
+  pub weighing-end : (u θ : ℕ) → zero < d → Weighing p e d u θ → e ≤ u → (u ≡ valuation e p d) × (θ ≡ cofactor e p d)
+  unfolding valuation
+  weighing-end u θ pos w h = weighed u θ pos w (ap (λ (x : ℕ). valuation x p θ) (let y : e - u ≡ zero = omega arith in y))
+
+  pub weighing-zero : d ≡ zero → (e ≡ valuation e p d) × (1 ≡ cofactor e p d)
+  unfolding cofactor
+  weighing-zero z = (sym (ap (valuation e p) z ∙ valuation-zero e p), sym (ap (cofactor e p) z))

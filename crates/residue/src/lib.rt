@@ -1,1 +1,198 @@
-// Numbers modulo m, by value.
+// Numbers modulo m, by value. Moduli are below 65,536, so that a product of two residues fits 32 bits.
+ghost use mathlib.Core.Path.{_≡_};
+ghost use Prim.Native.Nat.{_+_, _*_, _/_, _%_, _^_, _≤_, _<_};
+ghost use Rattle.residue.specs.Congruence.{neg};
+ghost use Rattle.residue.specs.Units.{Coprime, Bezout, inverse};
+ghost use Rattle.residue.specs.Valuation.{valuation, cofactor};
+ghost use Rattle.residue.specs.Factors.{leastDivisor, leastPower, value};
+ghost use Rattle.residue.specs.Remainders.{joined, two};
+ghost use Rattle.residue.specs.Reduction.{scaleOf};
+
+mod table;
+
+use table::LEAST;
+
+// The table of least divisors goes up to this number, and stops before it.
+pub const LIMIT: usize = 4096;
+
+// 2^48. To divide by it is a shift.
+const TWO_48: u64 = 281474976710656;
+
+// The sum modulo m. Both are below m, so one comparison takes the place of a division.
+pub fn add(x: u32, y: u32, m: u32) -> u32
+    requires { ⌜ (x < m) × (y < m) × (m < 65536) ⌝ }
+    ensures { λ r. ⌜ r ≡ (x + y) % m ⌝ }
+{
+    let s = x + y;
+    if s < m {
+        return s;
+    }
+    s - m
+}
+
+// The difference modulo m, likewise.
+pub fn sub(x: u32, y: u32, m: u32) -> u32
+    requires { ⌜ (x < m) × (y < m) × (m < 65536) ⌝ }
+    ensures { λ r. ⌜ r ≡ (x + neg m y) % m ⌝ }
+{
+    if y <= x {
+        return x - y;
+    }
+    x + m - y
+}
+
+// The product modulo m.
+pub fn mul(x: u32, y: u32, m: u32) -> u32
+    requires { ⌜ (x < 65536) × (y < 65536) × (0 < m) × (m < 65536) ⌝ }
+    ensures { λ r. ⌜ r ≡ (x * y) % m ⌝ }
+{
+    (x * y) % m
+}
+
+// A product added to s, modulo m: one division for both. The sum still fits 32 bits.
+pub fn mul_add(s: u32, x: u32, y: u32, m: u32) -> u32
+    requires { ⌜ (s < 65536) × (x < 65536) × (y < 65536) × (0 < m) × (m < 65536) ⌝ }
+    ensures { λ r. ⌜ r ≡ (s + x * y) % m ⌝ }
+{
+    (s + x * y) % m
+}
+
+// What Euclid's division finds for a and m: a x + m y = 1 + a m.
+pub struct Combination {
+    pub x: u32,
+    pub y: u32,
+}
+
+// By division, repeated on the smaller pair of the remainder and a. One division a call, and nothing goes below 0.
+pub fn euclid(a: u32, m: u32) -> Combination
+    requires { ⌜ (0 < a) × (a ≤ m) × (m < 65536) × Coprime a m ⌝ }
+    ensures { λ r. ⌜ Bezout a m (r .x) (r .y) ⌝ }
+{
+    if a <= 1 {
+        return Combination { x: 1, y: 1 };
+    }
+    let t = m / a;
+    let r = m % a;
+    let c = euclid(r, a);
+    Combination {
+        x: m - (t * c.x + (r - c.y)),
+        y: c.x,
+    }
+}
+
+// The inverse of the unit x modulo q, which is the x of Euclid's division.
+pub fn inverse(x: u32, q: u32) -> u32
+    requires { ⌜ (0 < x) × (x < q) × (q < 65536) × Coprime x q ⌝ }
+    ensures { λ r. ⌜ r ≡ inverse q x ⌝ }
+{
+    let c = euclid(x, q);
+    c.x
+}
+
+// p to the power e.
+pub fn power(p: u32, e: usize) -> u32
+    requires { ⌜ (0 < p) × (p ^ e < 65536) ⌝ }
+    ensures { λ r. ⌜ r ≡ p ^ e ⌝ }
+{
+    let mut r: u32 = 1;
+    let mut i: usize = 0;
+    while i < e {
+        r = r * p;
+        i += 1;
+    }
+    r
+}
+
+// A number as theta p^u.
+pub struct Weight {
+    pub u: usize,
+    pub theta: u32,
+}
+
+// d as theta p^u, with u at most e. For d = 0, u is e and theta is 1.
+pub fn weigh(d: u32, p: u32, e: usize) -> Weight
+    requires { ⌜ 0 < p ⌝ }
+    ensures { λ r. ⌜ (r .u ≡ valuation e p d) × (r .theta ≡ cofactor e p d) ⌝ }
+{
+    if d == 0 {
+        return Weight { u: e, theta: 1 };
+    }
+    let mut u: usize = 0;
+    let mut theta = d;
+    while u < e {
+        if theta % p != 0 {
+            return Weight { u: u, theta: theta };
+        }
+        theta = theta / p;
+        u += 1;
+    }
+    Weight { u: u, theta: theta }
+}
+
+// The number that `reduce` multiplies by, 2^48 / q + 1: taken once for each modulus.
+pub fn scale(q: u32) -> u64
+    requires { ⌜ (0 < q) × (q < 65536) ⌝ }
+    ensures { λ r. ⌜ r ≡ scaleOf q ⌝ }
+{
+    TWO_48 / (q as u64) + 1
+}
+
+// The remainder of x, which is below q^2. Two products are faster than a division: x m / 2^48 is the quotient.
+pub fn reduce(x: u32, q: u32, m: u64) -> u32
+    requires { ⌜ (0 < q) × (q < 65536) × (x < q * q) × (m ≡ scaleOf q) ⌝ }
+    ensures { λ r. ⌜ r ≡ x % q ⌝ }
+{
+    let t = (x as u64) * m / TWO_48;
+    x - (t as u32) * q
+}
+
+// The least prime divisor of n, from the table. The array is made anew at each call: call it once for a modulus, not for each term.
+pub fn least_divisor(n: usize) -> u16
+    requires { do ⌜ n < (← ⟦LIMIT⟧) ⌝ }
+    ensures { λ r. ⌜ r ≡ leastDivisor n ⌝ }
+{
+    LEAST[n]
+}
+
+// The least prime of a number with its exponent there, their power, and what is left of the number.
+pub struct Factor {
+    pub prime: u32,
+    pub exponent: usize,
+    pub value: u32,
+    pub rest: u32,
+}
+
+// Splits the power of its least prime off m. The table gives the prime, and weighing m by it the exponent and the rest.
+pub fn split(m: u32) -> Factor
+    requires { do ⌜ (2 ≤ m) × (m < (← ⟦LIMIT⟧)) ⌝ }
+    ensures { λ r. ⌜ (r .prime ≡ leastPower m .prime) × (r .exponent ≡ leastPower m .exponent)
+        × (r .value ≡ value (leastPower m)) × (r .rest ≡ m / value (leastPower m)) ⌝ }
+{
+    let p = least_divisor(m as usize) as u32;
+    let w = weigh(m, p, m as usize);
+    let v = power(p, w.u);
+    Factor {
+        prime: p,
+        exponent: w.u,
+        value: v,
+        rest: w.theta,
+    }
+}
+
+// What `join` multiplies by, the inverse of big modulo q: taken once for many remainders.
+pub fn joiner(big: u32, q: u32) -> u32
+    requires { ⌜ (0 < big) × (1 < q) × (big * q < 65536) × Coprime big q ⌝ }
+    ensures { λ r. ⌜ r ≡ inverse q big ⌝ }
+{
+    inverse(big % q, q)
+}
+
+// The one number below big q that leaves z modulo big and x modulo q. It is z + big s, and i, the joiner, tells s from x - z.
+pub fn join(z: u32, big: u32, x: u32, q: u32, i: u32) -> u32
+    requires { ⌜ (z < big) × (x < q) × (big * q < 65536) × Coprime big q × (i ≡ inverse q big) ⌝ }
+    ensures { λ r. ⌜ r ≡ joined (big * q) (two big z q x) ⌝ }
+{
+    let d = sub(x, z % q, q);
+    let s = mul(d, i, q);
+    z + big * s
+}
