@@ -1,0 +1,60 @@
+-- `sequence::zero_from` meets its contract: below i every place passes the test.
+-- Assumes nothing.
+use mathlib.Core.Path.{_≡_, sym}
+use mathlib.Core.Bool.{true}
+use Prim.Native.Nat.{ℕ, _-_, _≤_, _<_}
+use native.Mathlib.Omega.{arith}
+use lib.Dec.{ltb, eqb}
+use borrow.Author.Count.{below-more}
+use borrow.Author.Needs.{needs}
+use borrow.Author.Tests.{lt-ltb, le-ltb, eq-eqb, ne-eqb}
+use Rattle.lists.specs.Choice.{pick}
+use Rattle.lists.specs.Table.{at}
+use Rattle.lists.proofs.Search.{all-true, all-false}
+use Rattle.sequence.proofs.zero_from.Statement.{statement}
+use Rattle.sequence.proofs.zero_from.Tie as tie
+
+abbrev Inv-loop : tie.InvT-loop
+Inv-loop terms n i₀ i = (n ≤ i) × ((j : ℕ) → j < i → pick (ltb j n) true (eqb (at terms j) 0) ≡ true)
+
+abbrev μ-loop : tie.MeasureT-loop
+μ-loop terms n i₀ i = 128 - i
+
+loop-holds : tie.Need-loop-holds Inv-loop μ-loop
+loop-holds c = (search needs, λ j h. rw (lt-ltb j _ h))
+
+mul-if1 : tie.Need-mul-if1 Inv-loop μ-loop
+mul-if1 c = search needs
+
+element-copy-out-if1 : tie.Need-element-copy-out-if1 Inv-loop μ-loop
+element-copy-out-if1 c = search needs
+
+returns : tie.Need-returns Inv-loop μ-loop
+returns c = sym (all-false 128 _ (c .before .before .before .loop .i) (c .before .before .loop-test .taken) (rw (le-ltb _ _ (c .before .before .before .loop .inv .0), ne-eqb _ _ (c .if1 .taken))))
+
+add-i : tie.Need-add-i Inv-loop μ-loop
+add-i c = search needs
+
+loop-less : tie.Need-loop-less Inv-loop μ-loop
+loop-less c = search needs
+
+loop-again : tie.Need-loop-again Inv-loop μ-loop
+loop-again c = (omega arith, below-more _ _ (c .before .before .before .loop .inv .1) (rw (le-ltb _ _ (c .before .before .before .loop .inv .0), eq-eqb _ _ (c .if1 .left))))
+
+returns-2 : tie.Need-returns-2 Inv-loop μ-loop
+returns-2 c = sym (all-true _ _ (λ j h. c .before .loop .inv .1 j (omega arith)))
+
+pub zero-from-spec : {M : Type 1} → statement M
+zero-from-spec =
+    tie.close
+    (tie.spec
+    Inv-loop
+    μ-loop
+    loop-holds
+    mul-if1
+    element-copy-out-if1
+    returns
+    add-i
+    loop-less
+    loop-again
+    returns-2)

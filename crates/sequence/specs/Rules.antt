@@ -1,0 +1,111 @@
+-- What a sequence is (the paper's reading), what is wrong with one, and what opening one and pushing a term reply.
+-- Assumes nothing.
+use mathlib.Core.Path.{_≡_}
+use mathlib.Core.Bool.{Bool, true, false}
+use mathlib.Core.List.{List}
+use Prim.Native.Nat.{ℕ, zero, _+_, _≤_, _<_}
+use lib.Dec.{ltb, leb, eqb}
+use lib.ListN.{length, set, replicate}
+use Rattle.lists.specs.Choice.{pick}
+use Rattle.lists.specs.Table.{at}
+use Rattle.lists.specs.Search.{first, all}
+use Rattle.cells.specs.Cell.{cellAt, cellsFrom}
+use Rattle.sequence.specs.declared.Sequence.{Sequence}
+use Rattle.sequence.specs.declared.Refusal.{Refusal}
+use Rattle.sequence.specs.declared.Refusal.the-variants as R
+use Rattle.sequence.specs.declared.Outcome.{Outcome}
+use Rattle.sequence.specs.declared.Outcome.the-variants.{Done, Refused}
+use Rattle.sequence.specs.declared.Fault.{Fault}
+use Rattle.sequence.specs.declared.Fault.the-variants.{Sound, Modulus, Count, Term, Padding}
+use Rattle.sequence.specs.declared.Opened.{Opened}
+use Rattle.sequence.specs.declared.Pushed.{Pushed}
+use Rattle.sequence.specs.Limits.{maxModulus, maxTerms, queryBytes}
+
+-- the paper's number of a refusal
+abbrev pub number : Refusal → ℕ
+number R.Modulus = 1
+number R.Count = 2
+number R.Term = 3
+number R.Padding = 4
+number R.Buffer = 5
+number R.Candidate = 6
+number R.Sequence = 21
+number R.Full = 22
+number R.Catalogue = 23
+number R.Record = 24
+
+-- ---- what is wrong with a sequence
+
+abbrev pub outside : ℕ → Bool
+outside m = pick (ltb m 2) true (ltb maxModulus m)
+
+-- the first of n places whose term is not below m; n where there is none
+abbrev pub firstLarge : ℕ → List ℕ → ℕ → ℕ
+firstLarge m terms n = first n (λ i. leb m (at terms i))
+
+-- every place from n on holds zero
+abbrev pub zeroFrom : ℕ → List ℕ → Bool
+zeroFrom n terms = all maxTerms (λ i. pick (ltb i n) true (eqb (at terms i) zero))
+
+-- the first thing wrong, in the order of the refusals 1, 2, 3, 4
+unfoldable pub faultOf : Sequence → Fault
+faultOf s =
+    pick (outside (s .modulus)) Modulus
+    (pick (ltb maxTerms (s .count)) Count
+    (pick (ltb (firstLarge (s .modulus) (s .terms) (s .count)) (s .count)) (Term (firstLarge (s .modulus) (s .terms) (s .count)))
+    (pick (zeroFrom (s .count) (s .terms)) Sound Padding)))
+
+abbrev pub isSound : Fault → Bool
+isSound Sound = true
+isSound Modulus = false
+isSound Count = false
+isSound (Term i) = false
+isSound Padding = false
+
+-- the refusal that goes with it, where a query has it
+abbrev pub refusalOf : Fault → Outcome
+refusalOf Sound = Done
+refusalOf Modulus = Refused R.Modulus
+refusalOf Count = Refused R.Count
+refusalOf (Term i) = Refused R.Term
+refusalOf Padding = Refused R.Padding
+
+-- ---- opening, pushing
+
+-- a sequence without terms
+abbrev pub fresh : ℕ → Sequence
+fresh m = record { modulus = m; count = 0; terms = replicate maxTerms 0 }
+
+-- 1 for a modulus outside the limits, and a sequence of zeros
+unfoldable pub openOf : ℕ → Opened
+openOf m = pick (outside m) (record { sequence = fresh 0; outcome = Refused R.Modulus }) (record { sequence = fresh m; outcome = Done })
+
+-- the sequence with one term more
+abbrev pub longer : Sequence → ℕ → Sequence
+longer s t = record { modulus = s .modulus; count = s .count + 1; terms = set (s .terms) (s .count) t }
+
+-- 21, 22, 3, in this order, and the sequence as it came
+unfoldable pub pushOf : Sequence → ℕ → Pushed
+pushOf s t =
+    pick (isSound (faultOf s))
+    (pick (eqb (s .count) maxTerms) (record { sequence = s; outcome = Refused R.Full })
+    (pick (leb (s .modulus) t) (record { sequence = s; outcome = Refused R.Term }) (record { sequence = longer s t; outcome = Done })))
+    (record { sequence = s; outcome = Refused R.Sequence })
+
+-- ---- queries
+
+-- the sequence that a query writes down: modulus, count, terms
+unfoldable pub sequenceOf : List ℕ → Sequence
+sequenceOf query = record { modulus = cellAt query 0; count = cellAt query 1; terms = cellsFrom query 2 maxTerms }
+
+-- the first refusal of a query among 5, 1, 2, 3, 4
+unfoldable pub checkOf : List ℕ → Outcome
+checkOf query = pick (eqb (length query) queryBytes) (refusalOf (faultOf (sequenceOf query))) (Refused R.Buffer)
+
+-- a sequence within the limits
+pub record IsSound (s : Sequence) : Type 0 where
+  pub least : 2 ≤ s .modulus
+  pub most : s .modulus ≤ maxModulus
+  pub count : s .count ≤ maxTerms
+  pub below : (j : ℕ) → j < s .count → at (s .terms) j < s .modulus
+  pub zeros : (j : ℕ) → s .count ≤ j → j < maxTerms → at (s .terms) j ≡ zero

@@ -1,0 +1,241 @@
+// A sequence of terms modulo m (the paper's reading): opening one, pushing a term, what is wrong with one, and the query that writes one down.
+ghost use mathlib.Core.Path.{_≡_};
+ghost use Prim.Native.Nat.{_≤_};
+ghost use lib.ListN.{length};
+ghost use Rattle.sequence.specs.Rules.{firstLarge, zeroFrom, faultOf, refusalOf, isSound, openOf, pushOf, sequenceOf, checkOf};
+
+pub const MAX_MODULUS: u32 = 4095;
+
+pub const MAX_TERMS: u32 = 128;
+
+// A reading: terms past the count are zero.
+pub struct Sequence {
+    pub modulus: u32,
+    pub count: u32,
+    pub terms: [u32; 128],
+}
+
+// Why a call did nothing. `Rules.number` has the paper's number of each.
+pub enum Refusal {
+    Modulus,
+    Count,
+    Term,
+    Padding,
+    Buffer,
+    Candidate,
+    Sequence,
+    Full,
+    Catalogue,
+    Record,
+}
+
+pub enum Outcome {
+    Done,
+    Refused(Refusal),
+}
+
+pub struct Opened {
+    pub sequence: Sequence,
+    pub outcome: Outcome,
+}
+
+pub struct Pushed {
+    pub sequence: Sequence,
+    pub outcome: Outcome,
+}
+
+// The first thing wrong with a sequence; of a term, its place.
+pub enum Fault {
+    Sound,
+    Modulus,
+    Count,
+    Term(u32),
+    Padding,
+}
+
+// A fresh sequence for a modulus within the limits; else one of zeros, with the refusal.
+// Rejected: an open that takes 4,096; one that refuses 1 but hands back a sequence modulo 1.
+pub fn open(modulus: u32) -> Opened
+    ensures { λ r. ⌜ r ≡ openOf modulus ⌝ }
+{
+    let terms = [0u32; 128];
+    if modulus < 2 {
+        let zeros = Sequence {
+            modulus: 0,
+            count: 0,
+            terms: terms,
+        };
+        return Opened {
+            sequence: zeros,
+            outcome: Outcome::Refused(Refusal::Modulus),
+        };
+    }
+    if MAX_MODULUS < modulus {
+        let zeros = Sequence {
+            modulus: 0,
+            count: 0,
+            terms: terms,
+        };
+        return Opened {
+            sequence: zeros,
+            outcome: Outcome::Refused(Refusal::Modulus),
+        };
+    }
+    let fresh = Sequence {
+        modulus: modulus,
+        count: 0,
+        terms: terms,
+    };
+    Opened {
+        sequence: fresh,
+        outcome: Outcome::Done,
+    }
+}
+
+// The first of n places whose term is not below the modulus, or n.
+fn first_large(terms: &[u32; 128], n: u32, modulus: u32) -> u32
+    requires { ⌜ (n ≤ 128) × (length (now terms) ≡ 128) ⌝ }
+    ensures { λ r. ⌜ r ≡ firstLarge modulus (now (terms .entry)) n ⌝ }
+{
+    let mut i: u32 = 0;
+    while i < n {
+        if modulus <= terms[i as usize] {
+            return i;
+        }
+        i += 1;
+    }
+    n
+}
+
+// Whether every term from place n on is zero.
+fn zero_from(terms: &[u32; 128], n: u32) -> bool
+    requires { ⌜ (n ≤ 128) × (length (now terms) ≡ 128) ⌝ }
+    ensures { λ r. ⌜ r ≡ zeroFrom n (now (terms .entry)) ⌝ }
+{
+    let mut i = n as usize;
+    while i < 128 {
+        if terms[i] != 0 {
+            return false;
+        }
+        i += 1;
+    }
+    true
+}
+
+// The first thing wrong with a sequence, in the order of the refusals 1, 2, 3, 4.
+pub fn inspect(s: Sequence) -> Fault
+    ensures { λ f. ⌜ f ≡ faultOf s ⌝ }
+{
+    let m = s.modulus;
+    let n = s.count;
+    if m < 2 {
+        return Fault::Modulus;
+    }
+    if MAX_MODULUS < m {
+        return Fault::Modulus;
+    }
+    if MAX_TERMS < n {
+        return Fault::Count;
+    }
+    let terms = s.terms;
+    let i = first_large(&terms, n, m);
+    if i < n {
+        return Fault::Term(i);
+    }
+    if zero_from(&terms, n) {
+        return Fault::Sound;
+    }
+    Fault::Padding
+}
+
+// The refusal of a query with that fault. (The place of a term is not told yet.)
+pub fn refuse(f: Fault) -> Outcome
+    ensures { λ r. ⌜ r ≡ refusalOf f ⌝ }
+{
+    match f {
+        Fault::Sound => Outcome::Done,
+        Fault::Modulus => Outcome::Refused(Refusal::Modulus),
+        Fault::Count => Outcome::Refused(Refusal::Count),
+        Fault::Term(_) => Outcome::Refused(Refusal::Term),
+        Fault::Padding => Outcome::Refused(Refusal::Padding),
+    }
+}
+
+// Whether a sequence is within the limits: nothing is wrong with it.
+pub fn is_sound(s: Sequence) -> bool
+    ensures { λ r. ⌜ r ≡ isSound (faultOf s) ⌝ }
+{
+    let f = inspect(s);
+    match f {
+        Fault::Sound => true,
+        Fault::Modulus => false,
+        Fault::Count => false,
+        Fault::Term(_) => false,
+        Fault::Padding => false,
+    }
+}
+
+// The sequence with one more term at its end; as it came, with the refusal, where it is unsound or full or the term is too large.
+// Rejected: a push that is full at 127 terms; one that stores a term and then refuses it.
+pub fn push(s: Sequence, term: u32) -> Pushed
+    ensures { λ r. ⌜ r ≡ pushOf s term ⌝ }
+{
+    if is_sound(s) {
+        let n = s.count;
+        if n == MAX_TERMS {
+            return Pushed {
+                sequence: s,
+                outcome: Outcome::Refused(Refusal::Full),
+            };
+        }
+        if s.modulus <= term {
+            return Pushed {
+                sequence: s,
+                outcome: Outcome::Refused(Refusal::Term),
+            };
+        }
+        let mut longer = s;
+        longer.terms[n as usize] = term;
+        longer.count = n + 1;
+        return Pushed {
+            sequence: longer,
+            outcome: Outcome::Done,
+        };
+    }
+    Pushed {
+        sequence: s,
+        outcome: Outcome::Refused(Refusal::Sequence),
+    }
+}
+
+// The sequence that a query of 260 bytes writes down: modulus, count, 128 terms.
+pub fn load(query: &[u8]) -> Sequence
+    requires { ⌜ length (now query) ≡ 260 ⌝ }
+    ensures { λ r. ⌜ r ≡ sequenceOf (now (query .entry)) ⌝ }
+{
+    let mut terms = [0u32; 128];
+    let mut i: usize = 0;
+    while i < 128 {
+        terms[i] = cells::cell(query, 2 + i);
+        i += 1;
+    }
+    let modulus = cells::cell(query, 0);
+    let count = cells::cell(query, 1);
+    Sequence {
+        modulus: modulus,
+        count: count,
+        terms: terms,
+    }
+}
+
+// The first refusal of a query among 5, 1, 2, 3, 4.
+pub fn check(query: &[u8]) -> Outcome
+    ensures { λ r. ⌜ r ≡ checkOf (now (query .entry)) ⌝ }
+{
+    if query.len() != 260 {
+        return Outcome::Refused(Refusal::Buffer);
+    }
+    let s = load(query);
+    let f = inspect(s);
+    refuse(f)
+}
