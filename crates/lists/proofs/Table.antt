@@ -1,10 +1,10 @@
 -- Laws of lists made by a rule for their entries.
 -- Assumes nothing.
-use mathlib.Core.Path.{_≡_, refl, sym, ap, ap₂, _∙_}
+use mathlib.Core.Path.{_≡_, refl, sym, ap, ap₂, _∙_, subst}
 use mathlib.Core.List.{List, [], _∷_}
 use Prim.Native.Nat.{ℕ, zero, suc, _+_, _≤_, _<_}
 use native.Mathlib.Nat.{not-suc-le-zero, lt-irrefl, le-trans}
-use native.Mathlib.Decide.{decLt}
+use native.Mathlib.Decide.{ℕ-discrete, decLt}
 use native.Mathlib.Omega.{arith}
 use lib.ListN.{length, getD, set, length-set, List·getD-eq-default}
 use lib.Seq.{ext-getD, getD-set-same, getD-set-other}
@@ -71,3 +71,27 @@ module _ {A : Type 0} {d : A} {f : ℕ → A} {n : ℕ} where
 
   pub filled-all : {i : ℕ} {xs : List A} → Filled d f n i xs → n ≤ i → xs ≡ tabulate n f
   filled-all {xs = xs} h k = is-tabulate n f d xs (h .size) (λ j l. h .done j (le-trans l k))
+
+-- ---- a loop that sets one place after the other
+
+-- what holds of each place below i, and of what is set at i, holds of each place below i + 1
+module _ {A : Type 0} (d : A) (Q : ℕ → A → Type 0) (x : List A) (i : ℕ) (v : A) where
+  pub each-next : ((j : ℕ) → j < i → Q j (getD x j d)) → i < length x → Q i v → (j : ℕ) → j < i + 1 → Q j (getD (set x i v) j d)
+  each-next before h now j l = go (ℕ-discrete j i)
+    where
+      go : Dec (j ≡ i) → Q j (getD (set x i v) j d)
+      go (yes e) = subst (λ (k : ℕ). Q k (getD (set x i v) k d)) (sym e) (subst (Q i) (sym (getD-set-same x i v d h)) now)
+      go (no f) = subst (Q j) (sym (getD-set-other x i j v d f)) (before j (omega arith))
+
+-- the places past i are as they were
+pub rest-next : {A : Type 0} (d : A) (x x₀ : List A) (i : ℕ) (v : A) → ((j : ℕ) → i ≤ j → getD x j d ≡ getD x₀ j d)
+    → (j : ℕ) → i + 1 ≤ j → getD (set x i v) j d ≡ getD x₀ j d
+rest-next d x x₀ i v before j l = getD-set-other x i j v d (λ e. omega arith) ∙ before j (omega arith)
+
+-- one more place, where nothing is set
+pub each-skip : (Q : ℕ → Type 0) (i : ℕ) → ((j : ℕ) → j < i → Q j) → Q i → (j : ℕ) → j < i + 1 → Q j
+each-skip Q i before now j l = go (ℕ-discrete j i)
+  where
+    go : Dec (j ≡ i) → Q j
+    go (yes e) = subst Q (sym e) now
+    go (no f) = before j (omega arith)

@@ -132,6 +132,11 @@ module _ (m : ℕ) (big : 1 < m) (S : List ℕ) (n : ℕ) where
   unfolding register
   register-b i = at-tabulate-all (complexity m S n) b-of b-zero i
 
+  -- the register's a is found cell by cell, from the remainders at the prime powers
+  pub is-register-a : (i x : ℕ) → x < m → ((f : PrimePower) → Among f (primePowers m) → Cong (value f) x (at (rowOf f .a) i))
+      → x ≡ at (register m S n .a) i
+  is-register-a i x h each = is-coefficient (λ w. w .a) small-a i x h each ∙ sym (register-a i)
+
   pub register-length : register m S n .length ≡ complexity m S n
   unfolding register
   register-length = refl

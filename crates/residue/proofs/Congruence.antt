@@ -2,9 +2,9 @@
 -- Assumes nothing.
 use mathlib.Core.Path.{_≡_, refl, sym, ap, ap₂, _∙_}
 use mathlib.Core.Logic.{_⊎_, inl, inr}
-use Prim.Native.Nat.{ℕ, zero, suc, _+_, _*_, _-_, _/_, _%_, _^_, _≤_, _<_}
+use Prim.Native.Nat.{ℕ, zero, suc, _+_, _*_, _-_, _/_, _%_, _^_, _≤_, _<_, _∣_}
 use native.Mathlib.Nat.{mod-add-div', add-mul-mod-self-right, add-mod, add-mod-right, mod-mod, mod-eq-sub-mod, mod-eq-of-lt, mod-lt, zero-mod, mod-self, mul-mod-left}
-use native.Mathlib.Nat.{mod-mod-of-dvd, dvd-mul-right, dvd-mul-left, mul-comm, mul-assoc, add-mul, mul-one, one-mul, one-le-pow, pow-suc, pow-le-pow-right, mul-lt-mul-of-pos-left, lt-of-lt-of-le, add-sub-of-le}
+use native.Mathlib.Nat.{mod-mod-of-dvd, dvd-of-mod-eq-zero, dvd-mul-right, dvd-mul-left, mul-comm, mul-assoc, add-mul, mul-one, one-mul, one-le-pow, pow-suc, pow-le-pow-right, mul-lt-mul-of-pos-left, lt-of-lt-of-le, add-sub-of-le}
 use native.Mathlib.Omega.{arith}
 use lib.Pow.{pow-add}
 use Rattle.residue.specs.Congruence.{Cong, neg}
@@ -124,6 +124,14 @@ cong-left q r {x} {y} h =
 pub cong-right : (q r : ℕ) {x y : ℕ} → Cong (q * r) x y → Cong r x y
 cong-right q r {x} {y} h =
     record { same = sym (mod-mod-of-dvd r x (dvd-mul-left r q)) ∙ ap (λ (z : ℕ). z % r) (h .same) ∙ mod-mod-of-dvd r y (dvd-mul-left r q) }
+
+-- and modulo each divisor
+pub cong-divisor : (d q : ℕ) {x y : ℕ} → q % d ≡ zero → Cong q x y → Cong d x y
+cong-divisor d q {x} {y} z h =
+    record { same = sym (mod-mod-of-dvd d x dq) ∙ ap (λ (k : ℕ). k % d) (h .same) ∙ mod-mod-of-dvd d y dq }
+  where
+    dq : d ∣ q
+    dq = dvd-of-mod-eq-zero d {n = q} z
 
 -- ---- sums and differences of numbers below m, with no division
 

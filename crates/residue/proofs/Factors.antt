@@ -9,7 +9,7 @@ use native.Mathlib.Nat.{le-refl, mod-lt, mod-self, mod-mod-of-dvd, dvd-of-mod-eq
 use native.Mathlib.Decide.{ℕ-discrete}
 use native.Mathlib.Omega.{arith}
 use lib.Dec.{leb, eqb}
-use borrow.Author.Tests.{eq-eqb, eqb-true, le-leb, leb-true, leb-false}
+use borrow.Author.Tests.{eq-eqb, eqb-true, le-leb, lt-leb, leb-true, leb-false}
 use Rattle.lists.specs.Choice.{both}
 use Rattle.lists.specs.Search.{first}
 use Rattle.lists.proofs.Among.{Among, here, there}
@@ -164,6 +164,40 @@ factored-upto (suc f) m pos fuel = go (leb m 1) refl (λ r a b. factored-upto f 
 pub factored : (m : ℕ) → zero < m → Factored m (primePowers m)
 unfolding primePowers
 factored m pos = factored-upto m m pos (le-refl m)
+
+-- ---- the list of prime powers, one after the other
+
+-- a bound that is large enough does not matter
+powers-enough : (f g m : ℕ) → m ≤ f → m ≤ g → powersUpTo f m ≡ powersUpTo g m
+unfolding powersUpTo
+powers-enough zero zero m a b = refl
+powers-enough zero (suc g) m a b = rw (le-leb m 1 (omega arith), powersUpTo)
+powers-enough (suc f) zero m a b = rw (le-leb m 1 (omega arith), powersUpTo)
+powers-enough (suc f) (suc g) m a b = go (leb m 1) refl (powers-enough f g (m / value (leastPower m)))
+  where
+    go : (t : Bool) → leb m 1 ≡ t
+        → (m / value (leastPower m) ≤ f → m / value (leastPower m) ≤ g → powersUpTo f (m / value (leastPower m)) ≡ powersUpTo g (m / value (leastPower m)))
+        → _≡_ {A = List PrimePower} (elim t [ true ↦ [] | false ↦ leastPower m ∷ powersUpTo f (m / value (leastPower m)) ])
+        (elim t [ true ↦ [] | false ↦ leastPower m ∷ powersUpTo g (m / value (leastPower m)) ])
+    go true e ih = refl
+    go false e ih =
+        let less = rest-lt m (leb-false m 1 e) in
+        ap (λ (xs : List PrimePower). leastPower m ∷ xs) (ih (omega arith) (omega arith))
+
+-- the least prime's power first, then the prime powers of what is left
+pub powers-more : (m : ℕ) → 1 < m → primePowers m ≡ leastPower m ∷ primePowers (m / value (leastPower m))
+unfolding primePowers powersUpTo
+powers-more zero h = absurd (omega arith)
+powers-more (suc n) h =
+    let less = rest-lt (suc n) h in
+    rw (lt-leb (suc n) 1 h, powersUpTo)
+    (ap (λ (xs : List PrimePower). leastPower (suc n) ∷ xs)
+    (powers-enough n (suc n / value (leastPower (suc n))) (suc n / value (leastPower (suc n))) (omega arith) (le-refl _)))
+
+pub powers-none : (m : ℕ) → m ≤ 1 → primePowers m ≡ []
+unfolding primePowers powersUpTo
+powers-none zero h = refl
+powers-none (suc n) h = rw (le-leb (suc n) 1 h, powersUpTo)
 
 -- ---- a fact at every prime power
 

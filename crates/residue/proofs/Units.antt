@@ -4,7 +4,7 @@ use mathlib.Core.Path.{_≡_, refl, sym, ap, _∙_, subst}
 use mathlib.Core.Logic.{_⊎_, inl, inr, _≢_}
 use mathlib.Core.Bool.{Bool, true, false}
 use Prim.Native.Nat.{ℕ, zero, suc, _+_, _*_, _-_, _/_, _%_, _^_, _≤_, _<_, _∣_}
-use native.Mathlib.Nat.{mod-lt, mod-zero, mod-eq-of-lt, mod-self, mod-one, zero-mod, mod-mod, mod-mod-of-dvd, dvd-of-mod-eq-zero, mod-eq-zero-of-dvd, dvd-mul-right-of-dvd, le-of-dvd, div-add-mod', eq-zero-or-pos, le-refl, mul-le-mul-left, mul-le-mul-right, pow-suc, pow-zero, one-le-pow, pos-of-ne-zero, mul-assoc, one-mul}
+use native.Mathlib.Nat.{mod-lt, mod-zero, mod-eq-of-lt, mod-self, mod-one, zero-mod, mod-mod, mod-mod-of-dvd, dvd-of-mod-eq-zero, mod-eq-zero-of-dvd, dvd-mul-right-of-dvd, le-of-dvd, div-add-mod', eq-zero-or-pos, le-refl, mul-le-mul-left, mul-le-mul-right, pow-suc, pow-zero, one-le-pow, pos-of-ne-zero, mul-assoc, mul-comm, one-mul}
 use native.Mathlib.Decide.{ℕ-discrete, decLe}
 use native.Mathlib.Omega.{arith}
 use lib.Dec.{T, eqb, eqb→eq}
@@ -104,6 +104,29 @@ invertible-coprime q t v d x y =
   where
     dq : d ∣ q
     dq = dvd-of-mod-eq-zero d {n = q} y
+
+-- a number coprime to a product is coprime to its factors
+pub coprime-left : (x q r : ℕ) → Coprime x (q * r) → Coprime x q
+coprime-left x q r co d h k = co d h (mod-eq-zero-of-dvd d (dvd-mul-right-of-dvd d (dvd-of-mod-eq-zero d {n = q} k) r))
+
+pub coprime-right : (x q r : ℕ) → Coprime x (q * r) → Coprime x r
+coprime-right x q r co = coprime-left x r q (subst (Coprime x) (mul-comm q r) co)
+
+-- and a product of two that are coprime to q is coprime to q
+pub coprime-product : (x y q : ℕ) → zero < x → zero < y → zero < q → Coprime x q → Coprime y q → Coprime (x * y) q
+coprime-product x y q hx hy pos cx cy =
+    invertible-coprime q (x * y)
+    (record {
+      inverse = v .inverse * w .inverse;
+      inverts =
+          tr (of-eq (let z : x * y * (v .inverse * w .inverse) ≡ x * v .inverse * (y * w .inverse) = omega arith in z)) (mul (v .inverts) (w .inverts));
+    })
+  where
+    v : Invertible q x
+    v = coprime-invertible x q hx pos cx
+
+    w : Invertible q y
+    w = coprime-invertible y q hy pos cy
 
 -- two inverses of one number are congruent
 pub inverses-agree : (q t x y : ℕ) → Cong q (t * x) 1 → Cong q (t * y) 1 → Cong q x y

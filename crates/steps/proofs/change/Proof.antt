@@ -1,0 +1,138 @@
+-- `steps::change` meets its contract.
+-- Assumes nothing.
+use mathlib.Core.Path.{subst}
+use mathlib.Core.List.{[]}
+use Prim.Native.Nat.{ℕ, zero, _<_, _*_, _-_}
+use native.Mathlib.Nat.{mod-lt}
+use native.Mathlib.Omega.{arith}
+use lib.ListN.{getD}
+use borrow.Author.Needs.{needs}
+use Rattle.lists.specs.Table.{at}
+use Rattle.residue.proofs.Reduction.{product-below, square-low}
+use Rattle.steps.specs.Passes.{Added}
+use Rattle.steps.proofs.change.Statement.{statement}
+use Rattle.steps.proofs.change.Tie as tie
+
+returns : tie.Need-returns
+returns c = search needs
+
+sub-g : tie.Need-sub-g
+sub-g c = search needs
+
+sub-g-2 : tie.Need-sub-g-2
+sub-g-2 c = search needs
+
+mul-if2 : tie.Need-mul-if2
+mul-if2 c = search needs
+
+element-copy-out-if2 : tie.Need-element-copy-out-if2
+element-copy-out-if2 c = search needs
+
+returns-2 : tie.Need-returns-2
+returns-2 c = search needs
+
+mul-reduce : tie.Need-mul-reduce
+mul-reduce c = search needs
+
+element-copy-out-reduce : tie.Need-element-copy-out-reduce
+element-copy-out-reduce c = search needs
+
+mul-reduce-2 : tie.Need-mul-reduce-2
+mul-reduce-2 c =
+    let z = c .before .before .before .before .before .before in
+    let g = z .args .ring .e - 1 - z .args .u in
+    let some : zero < at (z .args .len .now) g = omega arith in
+    let lt : g < z .args .ring .e = omega arith in
+    omega (arith, product-below (z .args .ring .q) zero (z .args .t) (at (z .args .mult .now) g) (z .pre .3) (z .pre .5) (z .pre .4 .mults g lt some), square-low (z .args .ring .q) (z .pre .2))
+
+reduce-requires : tie.Need-reduce-requires
+reduce-requires c κs =
+    let z = c .before .before .before .before .before .before in
+    let g = z .args .ring .e - 1 - z .args .u in
+    let some : zero < at (z .args .len .now) g = omega arith in
+    let lt : g < z .args .ring .e = omega arith in
+    (z .pre .3, z .pre .2, omega (arith, product-below (z .args .ring .q) zero (z .args .t) (at (z .args .mult .now) g) (z .pre .3) (z .pre .5) (z .pre .4 .mults g lt some)), z .pre .8)
+
+sub-f : tie.Need-sub-f
+sub-f c =
+    let z = c .before .before .before .before .before .before .before .before in
+    omega (arith, c .before .reduce .ensures, mod-lt (z .args .t * at (z .args .mult .now) (z .args .ring .e - 1 - z .args .u)) {m = z .args .ring .q} (z .pre .3))
+
+mul-combine : tie.Need-mul-combine
+mul-combine c = search needs
+
+index-1-combine : tie.Need-index-1-combine
+index-1-combine c = search needs
+
+mul-combine-2 : tie.Need-mul-combine-2
+mul-combine-2 c = search needs
+
+element-copy-out-combine : tie.Need-element-copy-out-combine
+element-copy-out-combine c = search needs
+
+sub-combine : tie.Need-sub-combine
+sub-combine c =
+    let z = c .before .before .before .before .before .before .before .before .before .before .before in
+    let g = z .args .ring .e - 1 - z .args .u in
+    let some : zero < at (z .args .len .now) g = omega arith in
+    let lt : g < z .args .ring .e = omega arith in
+    omega (arith, z .pre .4 .early g lt some)
+
+mul-combine-3 : tie.Need-mul-combine-3
+mul-combine-3 c = search needs
+
+element-copy-out-combine-2 : tie.Need-element-copy-out-combine-2
+element-copy-out-combine-2 c = search needs
+
+add-combine : tie.Need-add-combine
+add-combine c =
+    let z = c .before .before .before .before .before .before .before .before .before .before .before .before in
+    let g = z .args .ring .e - 1 - z .args .u in
+    let some : zero < at (z .args .len .now) g = omega arith in
+    let lt : g < z .args .ring .e = omega arith in
+    omega (arith, z .pre .4 .early g lt some, z .pre .4 .short g lt some)
+
+combine-requires : tie.Need-combine-requires
+combine-requires c κs =
+    let z = c .before .before .before .before .before .before .before .before .before .before .before .before in
+    let g = z .args .ring .e - 1 - z .args .u in
+    let some : zero < at (z .args .len .now) g = omega arith in
+    let lt : g < z .args .ring .e = omega arith in
+    (z .pre .6, omega (arith, z .pre .4 .early g lt some, z .pre .4 .short g lt some), z .pre .3, z .pre .2, omega arith, z .pre .7, z .pre .4 .low g lt some, z .pre .4 .clear g lt some, z .pre .8)
+
+returns-3 : tie.Need-returns-3
+returns-3 c =
+    let a = c .before .before .before .before .before .before .before .before .before .before .before .before .before .args in
+    let g = a .ring .e - 1 - a .u in
+    record {
+      long = c .combine .ensures .long;
+      stay = λ h. absurd (omega arith);
+      fresh = λ h n. absurd (omega arith);
+      moved = λ h n. subst (λ (v : ℕ). Added 129 (a .ring .q) (a .ring .q - v) (a .k - at (a .when .now) g) (a .x .now) (getD (a .old .now) g []) (c .combine .last .0)) (c .before .before .before .before .before .before .reduce .ensures) (c .combine .ensures);
+    }
+
+pub change-spec : {M : Type 1} → statement M
+change-spec =
+    tie.close
+    (tie.spec
+    returns
+    sub-g
+    sub-g-2
+    mul-if2
+    element-copy-out-if2
+    returns-2
+    mul-reduce
+    element-copy-out-reduce
+    mul-reduce-2
+    reduce-requires
+    sub-f
+    mul-combine
+    index-1-combine
+    mul-combine-2
+    element-copy-out-combine
+    sub-combine
+    mul-combine-3
+    element-copy-out-combine-2
+    add-combine
+    combine-requires
+    returns-3)

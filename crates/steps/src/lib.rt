@@ -1,0 +1,315 @@
+// The steps at one prime power q = p^e (Reeds and Sloane, section 4), for q below 65,536.
+//
+// Of each row only a is kept. The theorems of `recurrence` are the reason: a discrepancy needs no b (`d-of-a`), lengths follow a law in
+// which no degree occurs (`length-stays`, `length-kept`, `length-grows`), and b follows from a (`b-of-a`).
+ghost use mathlib.Core.Path.{_≡_};
+ghost use mathlib.Core.List.{[]};
+ghost use Prim.Native.Nat.{ℕ, suc, _+_, _-_, _*_, _%_, _^_, _≤_, _<_};
+ghost use lib.ListN.{length, getD};
+ghost use Rattle.lists.specs.Table.{at};
+ghost use Rattle.residue.specs.Reduction.{scaleOf};
+ghost use Rattle.recurrence.specs.Polynomial.{conv};
+ghost use Rattle.steps.specs.Run.{Below, Setting, Result};
+ghost use Rattle.steps.specs.Passes.{Clear, Added, Shape, Blank, Starting, nextAt, Planned, Stocked, Changed, Changing, Grows, Settling};
+ghost use Rattle.steps.specs.State.{Rows, Lens, Looks, State, Spare};
+
+// Places for rows: a power p^e below 65,536 has e at most 15.
+const ROWS: usize = 15;
+
+// The ring in which the steps go: p, e, q = p^e, and q's `residue::scale`.
+pub struct Ring {
+    pub p: u32,
+    pub e: usize,
+    pub q: u32,
+    pub scale: u64,
+}
+
+// Coefficient k of the product of a and s, modulo q, where a is zero past place l. The sum fits 64 bits, so that one division does.
+pub fn coefficient(a: &[u32; 129], s: &[u32; 128], l: usize, k: usize, q: u32) -> u32
+    requires { ⌜ (l ≤ k) × (k < 128) × (0 < q) × Below 129 65536 (now a) × Below 128 65536 (now s)
+        × ((i : ℕ) → l < i → i ≤ k → at (now a) i ≡ 0) ⌝ }
+    ensures { λ r. ⌜ r ≡ conv (at (now (s .entry))) (at (now (a .entry))) k % q ⌝ }
+{
+    let mut sum: u64 = 0;
+    let mut i: usize = 0;
+    while i <= l {
+        sum += (a[i] as u64) * (s[k - i] as u64);
+        i += 1;
+    }
+    (sum % (q as u64)) as u32
+}
+
+// Adds f times the first n places of y, moved up s places, to x, modulo q.
+fn combine(x: &mut [u32; 129], y: &[u32; 129], f: u32, s: usize, n: usize, ring: Ring)
+    requires { ⌜ (length (now x) ≡ 129) × (s + n ≤ 129) × (0 < ring .q) × (ring .q < 65536) × (f ≤ ring .q) × Below 129 (ring .q) (now x)
+        × Below 129 (ring .q) (now y) × Clear n 129 (now y) × (ring .scale ≡ scaleOf (ring .q)) ⌝ }
+    ensures { λ _. ⌜ Added 129 (ring .q) f s (now (x .entry)) (now (y .entry)) (now (x .exit)) ⌝ }
+{
+    let end = s + n;
+    let mut i: usize = s;
+    while i < end {
+        x[i] = residue::reduce(x[i] + f * y[i - s], ring.q, ring.scale);
+        i += 1;
+    }
+}
+
+// u and theta of each row's discrepancy at step k.
+fn look(
+    cur: &[[u32; 129]; ROWS],
+    len: &[usize; ROWS],
+    s: &[u32; 128],
+    k: usize,
+    ring: Ring,
+    us: &mut [usize; ROWS],
+    ts: &mut [u32; ROWS],
+)
+    requires { ⌜ Setting ring (now s) × (k < 128) × Rows ring (now s) k (now cur) × Lens ring (now s) k (now len) × (length (now us) ≡ 15)
+        × (length (now ts) ≡ 15) ⌝ }
+    ensures { λ _. ⌜ Looks ring (now (s .entry)) k (now (us .exit)) (now (ts .exit)) × (length (now (us .exit)) ≡ 15)
+        × (length (now (ts .exit)) ≡ 15) ⌝ }
+{
+    let mut i: usize = 0;
+    while i < ring.e {
+        let l = len[i];
+        let d = coefficient(&cur[i], s, l, k, ring.q);
+        let w = residue::weigh(d, ring.p, ring.e);
+        us[i] = w.u;
+        ts[i] = w.theta;
+        i += 1;
+    }
+}
+
+// The length of row i after step k, by the law of lengths.
+fn grown(len: &[usize; ROWS], us: &[usize; ROWS], i: usize, k: usize, e: usize) -> usize
+    requires { ⌜ (i < e) × (k < 128) × (e ≤ 15) × ((j : ℕ) → j < e → at (now len) j ≤ k) ⌝ }
+    ensures { λ r. ⌜ r ≡ nextAt (now (len .entry)) (now (us .entry)) k e i ⌝ }
+{
+    let l = len[i];
+    let u = us[i];
+    if u < e {
+        let m = len[e - 1 - u];
+        if l + m <= k {
+            return k + 1 - m;
+        }
+    }
+    l
+}
+
+// The lengths after step k. Of each row that grows, the row that it is to remember is put aside, as it is before the step.
+fn plan(
+    cur: &[[u32; 129]; ROWS],
+    len: &[usize; ROWS],
+    us: &[usize; ROWS],
+    k: usize,
+    e: usize,
+    next: &mut [usize; ROWS],
+    saved: &mut [[u32; 129]; ROWS],
+)
+    requires { ⌜ (k < 128) × (e ≤ 15) × ((j : ℕ) → j < e → at (now len) j ≤ k) × Shape (now cur) × (length (now next) ≡ 15)
+        × Shape (now saved) ⌝ }
+    ensures { λ _. ⌜ Planned k e (now (len .entry)) (now (us .entry)) (now (cur .entry)) (now (next .exit)) (now (saved .exit)) e ⌝ }
+{
+    let mut i: usize = 0;
+    while i < e {
+        let n = grown(len, us, i, k, e);
+        next[i] = n;
+        if n <= len[i] {
+            i += 1;
+            continue;
+        }
+        let g = e - 1 - us[i];
+        saved[i] = cur[g];
+        i += 1;
+    }
+}
+
+// The a of one row after step k. A row with u = e stays; where row g has length 0 only b would change; else the row that g remembers
+// cancels the discrepancy. `mult` has the inverse of its theta times p^(u - u'), which is the same for every row that asks g.
+fn change(
+    x: &mut [u32; 129],
+    old: &[[u32; 129]; ROWS],
+    len: &[usize; ROWS],
+    when: &[usize; ROWS],
+    reach: &[usize; ROWS],
+    mult: &[u32; ROWS],
+    u: usize,
+    t: u32,
+    k: usize,
+    ring: Ring,
+)
+    requires { ⌜ (k < 128) × (ring .e ≤ 15) × (ring .q < 65536) × (0 < ring .q)
+        × Stocked ring k (now old) (now len) (now when) (now reach) (now mult) × (t ≤ ring .q) × (length (now x) ≡ 129)
+        × Below 129 (ring .q) (now x) × (ring .scale ≡ scaleOf (ring .q)) ⌝ }
+    ensures { λ _. ⌜ Changed ring k (now (old .entry)) (now (len .entry)) (now (when .entry)) (now (mult .entry)) u t (now (x .entry))
+        (now (x .exit)) ⌝ }
+{
+    if ring.e <= u {
+        return;
+    }
+    let g = ring.e - 1 - u;
+    if len[g] == 0 {
+        return;
+    }
+    let f = ring.q - residue::reduce(t * mult[g], ring.q, ring.scale);
+    combine(x, &old[g], f, k - when[g], reach[g] + 1, ring);
+}
+
+// The a of every row after step k.
+fn change_all(
+    cur: &mut [[u32; 129]; ROWS],
+    old: &[[u32; 129]; ROWS],
+    len: &[usize; ROWS],
+    when: &[usize; ROWS],
+    reach: &[usize; ROWS],
+    mult: &[u32; ROWS],
+    us: &[usize; ROWS],
+    ts: &[u32; ROWS],
+    k: usize,
+    ring: Ring,
+)
+    requires { ⌜ (k < 128) × (ring .e ≤ 15) × (ring .q < 65536) × (0 < ring .q)
+        × Stocked ring k (now old) (now len) (now when) (now reach) (now mult) × ((j : ℕ) → j < ring .e → at (now ts) j ≤ ring .q)
+        × Shape (now cur) × ((j : ℕ) → j < ring .e → Below 129 (ring .q) (getD (now cur) j [])) × (ring .scale ≡ scaleOf (ring .q)) ⌝ }
+    ensures { λ _. ⌜ Changing ring k (now (old .entry)) (now (len .entry)) (now (when .entry)) (now (mult .entry)) (now (us .entry))
+        (now (ts .entry)) (now (cur .entry)) (now (cur .exit)) (ring .e) ⌝ }
+{
+    let mut i: usize = 0;
+    while i < ring.e {
+        change(
+            &mut cur[i],
+            old,
+            len,
+            when,
+            reach,
+            mult,
+            us[i],
+            ts[i],
+            k,
+            ring,
+        );
+        i += 1;
+    }
+}
+
+// The lengths after step k, and what the rows that grew now remember: the row put aside, its step, its length and its multiplier. One
+// inverse a growth is enough, and theta is a unit.
+fn settle(
+    old: &mut [[u32; 129]; ROWS],
+    len: &mut [usize; ROWS],
+    when: &mut [usize; ROWS],
+    reach: &mut [usize; ROWS],
+    mult: &mut [u32; ROWS],
+    next: &[usize; ROWS],
+    saved: &[[u32; 129]; ROWS],
+    us: &[usize; ROWS],
+    ts: &[u32; ROWS],
+    k: usize,
+    ring: Ring,
+)
+    requires { ⌜ (k < 128) × (ring .e ≤ 15) × (ring .q < 65536) × (0 < ring .q) × (0 < ring .p) × (ring .p ^ ring .e < 65536)
+        × ((j : ℕ) → j < ring .e → Grows ring k (now len) (now next) (now us) (now ts) j) × Shape (now old) × Shape (now saved)
+        × (length (now len) ≡ 15) × (length (now when) ≡ 15) × (length (now reach) ≡ 15) × (length (now mult) ≡ 15) ⌝ }
+    ensures { λ _. ⌜ Settling ring k (now (saved .entry)) (now (next .entry)) (now (us .entry)) (now (ts .entry)) (now (old .entry))
+        (now (len .entry)) (now (when .entry)) (now (reach .entry)) (now (mult .entry)) (now (old .exit)) (now (len .exit))
+        (now (when .exit)) (now (reach .exit)) (now (mult .exit)) (ring .e) ⌝ }
+{
+    let mut i: usize = 0;
+    while i < ring.e {
+        let n = next[i];
+        if n <= len[i] {
+            i += 1;
+            continue;
+        }
+        let g = ring.e - 1 - us[i];
+        old[i] = saved[i];
+        len[i] = n;
+        when[i] = k;
+        reach[i] = k + 1 - n;
+        mult[i] = residue::inverse(ts[g], ring.q) * residue::power(ring.p, ring.e - 1 - i - us[g])
+            % ring.q;
+        i += 1;
+    }
+}
+
+// Step k. Every row after the step is made from the rows before it: `look` and `plan` only read them, `change_all` reads nothing of
+// other rows but what they remember, and `settle` renews that last.
+fn step(
+    cur: &mut [[u32; 129]; ROWS],
+    old: &mut [[u32; 129]; ROWS],
+    len: &mut [usize; ROWS],
+    when: &mut [usize; ROWS],
+    reach: &mut [usize; ROWS],
+    mult: &mut [u32; ROWS],
+    next: &mut [usize; ROWS],
+    saved: &mut [[u32; 129]; ROWS],
+    us: &mut [usize; ROWS],
+    ts: &mut [u32; ROWS],
+    s: &[u32; 128],
+    k: usize,
+    ring: Ring,
+)
+    requires { ⌜ Setting ring (now s) × (k < 128) × State ring (now s) k (now cur) (now old) (now len) (now when) (now reach) (now mult)
+        × Spare (now next) (now saved) (now us) (now ts) ⌝ }
+    ensures { λ _. ⌜ State ring (now (s .entry)) (suc k) (now (cur .exit)) (now (old .exit)) (now (len .exit)) (now (when .exit))
+        (now (reach .exit)) (now (mult .exit))
+        × Spare (now (next .exit)) (now (saved .exit)) (now (us .exit)) (now (ts .exit)) ⌝ }
+{
+    look(cur, len, s, k, ring, us, ts);
+    plan(cur, len, us, k, ring.e, next, saved);
+    change_all(cur, old, len, when, reach, mult, us, ts, k, ring);
+    settle(old, len, when, reach, mult, next, saved, us, ts, k, ring);
+}
+
+// The rows before any term: row i has a = p^i.
+fn start(cur: &mut [[u32; 129]; ROWS], p: u32, e: usize)
+    requires { ⌜ (0 < p) × (p ^ e < 65536) × (e ≤ 15) × Shape (now cur) × Blank (now cur) ⌝ }
+    ensures { λ _. ⌜ Starting p (now (cur .entry)) (now (cur .exit)) e ⌝ }
+{
+    let mut r: u32 = 1;
+    let mut i: usize = 0;
+    while i < e {
+        cur[i][0] = r;
+        r = r * p;
+        i += 1;
+    }
+}
+
+// The steps on the first n terms of s: a of row 0, and its length for the first 0, 1, .., n terms. The terms need not be below q.
+pub fn run(s: &[u32; 128], n: usize, ring: Ring, a: &mut [u32; 129], lens: &mut [u32; 129])
+    requires { ⌜ Setting ring (now s) × (n ≤ 128) ⌝ }
+    ensures { λ _. ⌜ Result ring (now (s .entry)) n (now (a .exit)) (now (lens .exit)) ⌝ }
+{
+    let mut cur = [[0u32; 129]; ROWS];
+    let mut old = [[0u32; 129]; ROWS];
+    let mut saved = [[0u32; 129]; ROWS];
+    let mut len = [0usize; ROWS];
+    let mut next = [0usize; ROWS];
+    let mut when = [0usize; ROWS];
+    let mut reach = [0usize; ROWS];
+    let mut mult = [0u32; ROWS];
+    let mut us = [0usize; ROWS];
+    let mut ts = [0u32; ROWS];
+    start(&mut cur, ring.p, ring.e);
+    *lens = [0u32; 129];
+    let mut k: usize = 0;
+    while k < n {
+        step(
+            &mut cur,
+            &mut old,
+            &mut len,
+            &mut when,
+            &mut reach,
+            &mut mult,
+            &mut next,
+            &mut saved,
+            &mut us,
+            &mut ts,
+            s,
+            k,
+            ring,
+        );
+        k += 1;
+        lens[k] = len[0] as u32;
+    }
+    *a = cur[0];
+}

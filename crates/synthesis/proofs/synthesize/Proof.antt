@@ -1,0 +1,53 @@
+-- `synthesis::synthesize` meets its contract.
+-- Assumes nothing.
+use Prim.Native.Nat.{zero}
+use native.Mathlib.Omega.{arith}
+use lib.ListN.{length-replicate}
+use Rattle.steps.proofs.Passes.{line-blank}
+use Rattle.synthesis.proofs.Gathering.{a-below, length-most, synthesis-is}
+use borrow.Author.Needs.{needs}
+use Rattle.synthesis.proofs.synthesize.Statement.{statement}
+use Rattle.synthesis.proofs.synthesize.Tie as tie
+
+gather-requires : tie.Need-gather-requires
+gather-requires c κs =
+    let z = c .before .before in
+    (z .pre .0, z .pre .1, z .pre .2, z .pre .3, length-replicate 129 zero, λ i h. omega (arith, line-blank 129 i), length-replicate 129 zero, λ i h. omega (arith, line-blank 129 i))
+
+mul-length : tie.Need-mul-length
+mul-length c = search needs
+
+array-read-length : tie.Need-array-read-length
+array-read-length c = search needs
+
+cast-start-cells : tie.Need-cast-start-cells
+cast-start-cells c =
+    let z = c .before .before .before .before in
+    let a = z .args in
+    let g = c .before .gather .ensures in
+    omega (arith, length-most (a .modulus) (a .terms .now) (a .count) _ _ (z .pre .0) (z .pre .2) (g .0) (g .1))
+
+start-cells-requires : tie.Need-start-cells-requires
+start-cells-requires c κs =
+    let z = c .before .before .before .before in
+    let a = z .args in
+    let g = c .before .gather .ensures in
+    (omega (arith, length-most (a .modulus) (a .terms .now) (a .count) _ _ (z .pre .0) (z .pre .2) (g .0) (g .1)), omega arith, λ i h. omega (arith, a-below (a .modulus) (a .terms .now) (a .count) _ _ (z .pre .0) (z .pre .2) (g .0) (g .1) i h), z .pre .3)
+
+returns : tie.Need-returns
+returns c =
+    let z = c .before .before .before .before .before in
+    let a = z .args in
+    let g = c .before .before .gather .ensures in
+    synthesis-is (a .modulus) (a .terms .now) (a .count) _ _ (z .pre .0) (z .pre .2) (g .0) (g .1) _ (c .start-cells .ensures)
+
+pub synthesize-spec : {M : Type 1} → statement M
+synthesize-spec =
+    tie.close
+    (tie.spec
+    gather-requires
+    mul-length
+    array-read-length
+    cast-start-cells
+    start-cells-requires
+    returns)

@@ -1,0 +1,22 @@
+-- What `synthesize` gives: the definition's register, each list in full, and the linear complexity of every beginning of the terms.
+-- Assumes nothing.
+use mathlib.Core.List.{List}
+use Prim.Native.Nat.{ℕ, zero}
+use lib.Dec.{leb}
+use Rattle.lists.specs.Choice.{pick}
+use Rattle.lists.specs.Table.{at, tabulate}
+use Rattle.recurrence.specs.Register.{complexity, register}
+use Rattle.synthesis.specs.declared.Synthesis.{Synthesis}
+
+-- the linear complexity of the first k of n terms; past n, 0
+unfoldable pub lengthAt : ℕ → List ℕ → ℕ → ℕ → ℕ
+lengthAt m S n k = pick (leb k n) (complexity m S k) zero
+
+unfoldable pub synthesisOf : ℕ → List ℕ → ℕ → Synthesis
+synthesisOf m S n =
+    record {
+      length = register m S n .length;
+      a = tabulate 129 (at (register m S n .a));
+      b = tabulate 128 (at (register m S n .b));
+      lengths = tabulate 129 (lengthAt m S n);
+    }
