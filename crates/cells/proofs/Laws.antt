@@ -8,12 +8,12 @@ use native.Mathlib.Nat.{mod-eq-of-lt}
 use native.Mathlib.Numerals.{add-one}
 use native.Mathlib.Omega.{arith}
 use lib.Dec.{eqb}
-use lib.ListN.{length, take, drop, set, length-append, length-set, drop-of-length-le}
-use lib.Seq.{take-suc, drop-cons, set-at, take-all, length-take-le, ext-getD}
+use lib.ListN.{length, take, drop, set, length-append, length-set, drop-of-length-le, List·getD-append}
+use lib.Seq.{take-suc, drop-cons, set-at, take-all, length-take-le, getD-take, ext-getD}
 use borrow.Author.Tests.{eqb-true, eq-eqb}
 use Rattle.lists.specs.Table.{at, tabulate}
 use Rattle.lists.proofs.Search.{false-true, both-left, both-right, both-true}
-use Rattle.lists.proofs.Table.{tabulate-eq}
+use Rattle.lists.proofs.Table.{tabulate-eq, at-tabulate}
 use Rattle.cells.specs.Cell.{cellAt, cellsFrom, putCell, bytesOf, equal}
 
 -- ---- numbers as cells
@@ -71,6 +71,12 @@ cellsFrom-more s k n =
     (tabulate-eq n (λ i. cellAt s (k + suc i)) (λ i. cellAt s (k + 1 + i)) λ i h.
     let e : k + suc i ≡ k + 1 + i = omega arith in
     ap (cellAt s) e)
+
+-- cell i among the first n
+pub at-cells : (s : List ℕ) (n i : ℕ) → i < n → at (cellsFrom s 0 n) i ≡ cellAt s i
+at-cells s n i h =
+    let z : 0 + i ≡ i = omega arith in
+    at-tabulate n (λ i. cellAt s (0 + i)) i h ∙ ap (cellAt s) z
 
 -- what was read is written again
 pub bytesOf-cells : (s : List ℕ) (n : ℕ) → length s ≡ 2 * n → ((j : ℕ) → at s j < 256) → bytesOf (cellsFrom s 0 n) ≡ s
@@ -167,3 +173,19 @@ module _ {values out₀ : List ℕ} (fits : length out₀ ≡ 2 * length values)
   pub written-all : {i : ℕ} {out : List ℕ} → Written values out₀ i out → length values ≤ i → out ≡ bytesOf values
   written-all {i} w h =
       w .is ∙ ap₂ (λ (c d : List ℕ). bytesOf c ++ d) (take-all i values h) (drop-of-length-le out₀ {i = 2 * i} (omega arith)) ∙ append-nil (bytesOf values)
+
+  -- a number that the loop has written is read again
+  pub written-at : {i : ℕ} {out : List ℕ} (k : ℕ) → Written values out₀ i out → k < i → at values k < 65536 → cellAt out k ≡ at values k
+  written-at {i} {out} k w h small = omega (arith, low, high)
+    where
+      long : length (bytesOf (take i values)) ≡ 2 * i
+      long = length-bytesOf (take i values) ∙ ap (λ (n : ℕ). 2 * n) (length-take-le i values (w .within))
+
+      read : (j : ℕ) → j < 2 * i → at out j ≡ at (bytesOf (take i values)) j
+      read j l = ap (λ (o : List ℕ). at o j) (w .is) ∙ List·getD-append (bytesOf (take i values)) (drop (2 * i) out₀) zero j (omega (arith, long))
+
+      low : at out (2 * k) ≡ at values k % 256
+      low = read (2 * k) (omega arith) ∙ at-low (take i values) k ∙ ap (λ (x : ℕ). x % 256) (getD-take i values k zero h)
+
+      high : at out (2 * k + 1) ≡ at values k / 256 % 256
+      high = read (2 * k + 1) (omega arith) ∙ at-high (take i values) k ∙ ap (λ (x : ℕ). x / 256 % 256) (getD-take i values k zero h)

@@ -1,8 +1,13 @@
 // A sequence of terms modulo m (the paper's reading): opening one, pushing a term, what is wrong with one, and the query that writes one down.
+use synthesis::Synthesis;
 ghost use mathlib.Core.Path.{_≡_};
-ghost use Prim.Native.Nat.{_≤_};
+ghost use Prim.Native.Nat.{_≤_, _<_};
 ghost use lib.ListN.{length};
-ghost use Rattle.sequence.specs.Rules.{firstLarge, zeroFrom, faultOf, refusalOf, isSound, openOf, pushOf, sequenceOf, checkOf};
+ghost use mathlib.Core.List.{_++_};
+ghost use Rattle.cells.specs.Cell.{bytesOf};
+ghost use Rattle.synthesis.specs.Synthesis.{synthesisOf};
+ghost use Rattle.sequence.specs.Report.{reportOf, written, aBuffer, bBuffer, profileOf, filled, profileBuffer};
+ghost use Rattle.sequence.specs.Rules.{number, IsSound, firstLarge, zeroFrom, faultOf, refusalOf, isSound, openOf, pushOf, sequenceOf, checkOf};
 
 pub const MAX_MODULUS: u32 = 4095;
 
@@ -31,6 +36,12 @@ pub enum Refusal {
 
 pub enum Outcome {
     Done,
+    Refused(Refusal),
+}
+
+// What a register's reply is: its length.
+pub enum Reported {
+    Length(u32),
     Refused(Refusal),
 }
 
@@ -238,4 +249,84 @@ pub fn check(query: &[u8]) -> Outcome
     let s = load(query);
     let f = inspect(s);
     refuse(f)
+}
+
+// The paper's number of a refusal.
+pub fn number(r: Refusal) -> u64
+    ensures { λ n. ⌜ (n ≡ number r) × (n < 256) ⌝ }
+{
+    match r {
+        Refusal::Modulus => 1,
+        Refusal::Count => 2,
+        Refusal::Term => 3,
+        Refusal::Padding => 4,
+        Refusal::Buffer => 5,
+        Refusal::Candidate => 6,
+        Refusal::Sequence => 21,
+        Refusal::Full => 22,
+        Refusal::Catalogue => 23,
+        Refusal::Record => 24,
+    }
+}
+
+// The register and the profile of a sound sequence.
+pub fn solve(s: Sequence) -> Synthesis
+    requires { ⌜ IsSound s ⌝ }
+    ensures { λ r. ⌜ r ≡ synthesisOf (s .modulus) (s .terms) (s .count) ⌝ }
+{
+    let terms = s.terms;
+    synthesis::synthesize(s.modulus, &terms, s.count as usize)
+}
+
+// Writes a to 258 bytes and b to the 256 after them: how a register stands in a record.
+pub fn write_register(x: Synthesis, out: &mut [u8])
+    requires { ⌜ (length (x .a) ≡ 129) × (length (x .b) ≡ 128) × (length (now out) ≡ 514) ⌝ }
+    ensures { λ _. ⌜ now (out .exit) ≡ bytesOf (x .a) ++ bytesOf (x .b) ⌝ }
+{
+    let a = x.a;
+    let b = x.b;
+    cells::write(&mut out[0..258], &a);
+    cells::write(&mut out[258..514], &b);
+}
+
+// Writes the shortest register of the terms, a to 129 cells and b to 128, and replies its length.
+// Rejected: one that leaves the cells as lent; one that writes a = 1 for every sequence.
+pub fn register(s: Sequence, a: &mut [u8], b: &mut [u8]) -> Reported
+    ensures { λ r. ⌜ r ≡ reportOf s (now (a .entry)) (now (b .entry)) ⌝ }
+    ensures { λ r. ⌜ now (a .exit) ≡ written r (aBuffer s) (now (a .entry)) ⌝ }
+    ensures { λ r. ⌜ now (b .exit) ≡ written r (bBuffer s) (now (b .entry)) ⌝ }
+{
+    if a.len() != 258 {
+        return Reported::Refused(Refusal::Buffer);
+    }
+    if b.len() != 256 {
+        return Reported::Refused(Refusal::Buffer);
+    }
+    if is_sound(s) {
+        let x = solve(s);
+        let xa = x.a;
+        let xb = x.b;
+        cells::write(a, &xa);
+        cells::write(b, &xb);
+        return Reported::Length(x.length);
+    }
+    Reported::Refused(Refusal::Sequence)
+}
+
+// Writes the linear complexity of the first 0, 1, .. terms to 129 cells, zero past the count.
+// Rejected: one that writes n for every length; one that leaves the cell of the last term out.
+pub fn profile(s: Sequence, cells: &mut [u8]) -> Outcome
+    ensures { λ r. ⌜ r ≡ profileOf s (now (cells .entry)) ⌝ }
+    ensures { λ r. ⌜ now (cells .exit) ≡ filled r (profileBuffer s) (now (cells .entry)) ⌝ }
+{
+    if cells.len() != 258 {
+        return Outcome::Refused(Refusal::Buffer);
+    }
+    if is_sound(s) {
+        let x = solve(s);
+        let lengths = x.lengths;
+        cells::write(cells, &lengths);
+        return Outcome::Done;
+    }
+    Outcome::Refused(Refusal::Sequence)
 }

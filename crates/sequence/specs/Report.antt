@@ -1,0 +1,60 @@
+-- What the register and the profile of a sequence reply and write.
+-- Assumes nothing.
+use mathlib.Core.Bool.{Bool, true, false}
+use mathlib.Core.List.{List}
+use Prim.Native.Nat.{ℕ, _+_}
+use lib.Dec.{eqb}
+use lib.ListN.{length}
+use Rattle.lists.specs.Choice.{pick}
+use Rattle.lists.specs.Table.{at, tabulate}
+use Rattle.cells.specs.Cell.{bytesOf}
+use Rattle.recurrence.specs.Register.{Register, register}
+use Rattle.synthesis.specs.Synthesis.{lengthAt}
+use Rattle.sequence.specs.declared.Sequence.{Sequence}
+use Rattle.sequence.specs.declared.Refusal.the-variants as R
+use Rattle.sequence.specs.declared.Outcome.{Outcome}
+use Rattle.sequence.specs.declared.Outcome.the-variants as O
+use Rattle.sequence.specs.declared.Reported.{Reported}
+use Rattle.sequence.specs.declared.Reported.the-variants as P
+use Rattle.sequence.specs.Limits.{maxTerms, aBytes, bBytes, profileBytes}
+use Rattle.sequence.specs.Rules.{faultOf, isSound}
+
+-- the register of a sequence: of its first `count` terms
+abbrev pub registerOf : Sequence → Register
+registerOf s = register (s .modulus) (s .terms) (s .count)
+
+-- its coefficients as bytes: a_0 .. a_128 and b_0 .. b_127
+abbrev pub aBuffer : Sequence → List ℕ
+aBuffer s = bytesOf (tabulate (maxTerms + 1) (at (registerOf s .a)))
+
+abbrev pub bBuffer : Sequence → List ℕ
+bBuffer s = bytesOf (tabulate maxTerms (at (registerOf s .b)))
+
+-- the linear complexity of the first k terms, for k up to the count; zero past it
+abbrev pub profileBuffer : Sequence → List ℕ
+profileBuffer s = bytesOf (tabulate (maxTerms + 1) (lengthAt (s .modulus) (s .terms) (s .count)))
+
+-- 5 (a, b), 21, in this order; else the length
+unfoldable pub reportOf : Sequence → List ℕ → List ℕ → Reported
+reportOf s a b =
+    pick (eqb (length a) aBytes)
+    (pick (eqb (length b) bBytes)
+    (pick (isSound (faultOf s)) (P.Length (registerOf s .length)) (P.Refused R.Sequence))
+    (P.Refused R.Buffer))
+    (P.Refused R.Buffer)
+
+-- a buffer at exit: written, or as lent
+abbrev pub written : Reported → List ℕ → List ℕ → List ℕ
+written (P.Length l) new old = new
+written (P.Refused r) new old = old
+
+-- 5, 21, in this order
+unfoldable pub profileOf : Sequence → List ℕ → Outcome
+profileOf s cells =
+    pick (eqb (length cells) profileBytes)
+    (pick (isSound (faultOf s)) O.Done (O.Refused R.Sequence))
+    (O.Refused R.Buffer)
+
+abbrev pub filled : Outcome → List ℕ → List ℕ → List ℕ
+filled O.Done new old = new
+filled (O.Refused r) new old = old
