@@ -3,11 +3,12 @@
 use mathlib.Core.Path.{_≡_, sym, ap, _∙_, subst}
 use mathlib.Core.List.{List}
 use Prim.Native.Nat.{ℕ, zero, _+_, _*_, _≤_, _<_, max}
-use native.Mathlib.Nat.{le-refl, mul-le-mul-left, pow-zero}
+use native.Mathlib.Nat.{le-refl, mul-le-mul-left, mod-one, pow-zero}
 use native.Mathlib.Omega.{arith}
 use lib.ListN.{length, set, length-set}
 use Rattle.lists.specs.Table.{at}
 use Rattle.lists.proofs.Table.{each-next, each-skip, rest-next}
+use Rattle.residue.specs.Congruence.{Cong}
 use Rattle.residue.specs.Units.{Coprime}
 use Rattle.residue.specs.Remainders.{joined, two}
 use Rattle.residue.proofs.Congruence.{rfl, of-eq, Invertible, pow-lt}
@@ -97,6 +98,22 @@ module _ (ring : Ring) (S : List ℕ) (st : Setting ring S) (n : ℕ) (few : n �
         long-a = g .long;
         long-lengths = u .long;
         cells = λ i h. subst (λ (y : ℕ). Joint big (ring .q) (at a i) y (at a′ i)) (r .cells-a i h) (g .cells i h);
+        sizes = λ k h. u .cells k (omega arith) ∙ ap (max (at lengths k)) (r .sizes k h);
+        others = λ k h l. omega (arith, u .cells k l, r .others k h);
+      }
+
+  -- modulo 1 there is nothing to join
+  pub extended-first : (big : ℕ) (a lengths lengths′ : List ℕ) → big ≡ 1 → Raised lengths lens lengths′ → Extended ring S n big a lengths row lengths′
+  extended-first big a lengths lengths′ one u =
+      record {
+        long-a = r .long-a;
+        long-lengths = u .long;
+        cells = λ i h.
+            record {
+              below = omega (arith, row-below i h, ap (λ (x : ℕ). x * ring .q) one);
+              left = subst (λ (x : ℕ). Cong x (at row i) (at a i)) (sym one) (record { same = mod-one (at row i) ∙ sym (mod-one (at a i)) });
+              right = of-eq (r .cells-a i h);
+            };
         sizes = λ k h. u .cells k (omega arith) ∙ ap (max (at lengths k)) (r .sizes k h);
         others = λ k h l. omega (arith, u .cells k l, r .others k h);
       }

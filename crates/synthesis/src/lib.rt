@@ -55,7 +55,7 @@ fn raise(lengths: &mut [u32; 129], lens: &[u32; 129])
     }
 }
 
-// The steps at one more prime power, joined with what was found modulo big.
+// The steps at one more prime power, joined with what was found modulo big. Modulo 1 nothing was: the first row is taken as it is.
 fn extend(
     ring: Ring,
     big: u32,
@@ -72,8 +72,12 @@ fn extend(
     let mut row = [0u32; 129];
     let mut lens = [0u32; 129];
     steps::run(terms, count, ring, &mut row, &mut lens);
-    join_cells(a, big, &row, ring.q);
     raise(lengths, &lens);
+    if big == 1 {
+        *a = row;
+        return;
+    }
+    join_cells(a, big, &row, ring.q);
 }
 
 // a and the lengths, from the prime powers of the modulus, the least prime first.

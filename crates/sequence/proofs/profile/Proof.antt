@@ -7,7 +7,7 @@ use Rattle.synthesis.specs.declared.Synthesis.{Synthesis}
 use Rattle.synthesis.specs.Synthesis.{synthesisOf}
 use Rattle.sequence.specs.Report.{profileOf}
 use Rattle.sequence.proofs.Laws.{sound-of}
-use Rattle.sequence.proofs.Report.{long-lengths}
+use Rattle.sequence.proofs.Report.{long-a, long-lengths}
 use Rattle.sequence.proofs.profile.Statement.{statement}
 use Rattle.sequence.proofs.profile.Tie as tie
 use Rattle.sequence.proofs.profile.Reads as reads
@@ -35,7 +35,7 @@ slice-aggregate-write c = search needs
 
 -- src/lib.rt:328:9
 write-requires : tie.Need-write-requires
-write-requires c κs = omega (arith, long-lengths _ _ (c .before .before .before .solve .ensures))
+write-requires c κs = omega (arith, long-a _ _ (c .before .before .before .solve .ensures), long-lengths _ _ (c .before .before .before .solve .ensures))
 
 -- src/lib.rt:329:9
 same-length : tie.Need-same-length

@@ -66,8 +66,10 @@ returns-3 c =
     let v = c .before .before .before .before .before .before .before .before .before .before .before .before in
     let g = v .before in (
       rw (eq-eqb _ _ (g .before .before .before .if1 .left), eq-eqb _ _ (g .before .before .if2 .left), ← g .before .is-sound .ensures, g .if3 .taken) (ap (λ (z : Synthesis). Length (z .length)) (v .solve .ensures)),
-      (c .before .before .before .before .before .before .before .write .ensures ∙ ap (λ (z : Synthesis). bytesOf (z .a)) (v .solve .ensures),
-      c .before .before .write2 .ensures ∙ ap (λ (z : Synthesis). bytesOf (z .b)) (v .solve .ensures)),
+      (
+        c .before .before .before .before .before .before .before .write .ensures ∙ ap (λ (z : Synthesis). bytesOf (z .a)) (v .solve .ensures),
+        c .before .before .write2 .ensures ∙ ap (λ (z : Synthesis). bytesOf (z .b)) (v .solve .ensures),
+      ),
     )
 
 -- src/lib.rt:294:1

@@ -1,6 +1,6 @@
 -- `synthesis::extend` meets its contract.
 -- Assumes nothing.
-use Rattle.synthesis.proofs.Joining.{ring-big, row-below, extended-is}
+use Rattle.synthesis.proofs.Joining.{ring-big, row-below, extended-is, extended-first}
 use borrow.Author.Needs.{needs}
 use Rattle.synthesis.proofs.extend.Statement.{statement}
 use Rattle.synthesis.proofs.extend.Tie as tie
@@ -8,13 +8,23 @@ use Rattle.synthesis.proofs.extend.Tie as tie
 run-requires : tie.Need-run-requires
 run-requires c κs = search needs
 
+raise-requires : tie.Need-raise-requires
+raise-requires c κs = search needs
+
+returns : tie.Need-returns
+returns c =
+    let z = c .before .before .before .before .before .before .before in
+    let a = z .args in
+    extended-first (a .ring) (a .terms .now) (z .pre .0) (a .count) (z .pre .1) _ _ (c .before .before .before .before .run .ensures) (a .big) (a .a .now) (a .lengths .now) _
+    (c .if1 .taken) (c .before .raise .ensures)
+
 join-cells-requires : tie.Need-join-cells-requires
 join-cells-requires c κs =
-    let z = c .before .before .before .before .before in
+    let z = c .before .before .before .before .before .before .before .before .before in
     let a = z .args in
     let r = a .ring in
     let st = z .pre .0 in
-    let x = c .before .before .run .ensures in (
+    let x = c .before .before .before .before .before .before .run .ensures in (
       z .pre .5,
       z .pre .2,
       ring-big r (a .terms .now) st (a .count) (z .pre .1) _ _ x,
@@ -24,17 +34,12 @@ join-cells-requires c κs =
       row-below r (a .terms .now) st (a .count) (z .pre .1) _ _ x,
     )
 
-raise-requires : tie.Need-raise-requires
-raise-requires c κs = search needs
-
-returns : tie.Need-returns
-returns c =
-    let z = c .before .before .before .before .before .before .before .before .before in
+returns-2 : tie.Need-returns-2
+returns-2 c =
+    let z = c .before .before .before .before .before .before .before .before .before .before in
     let a = z .args in
-    let r = a .ring in
-    let st = z .pre .0 in
-    extended-is r (a .terms .now) st (a .count) (z .pre .1) _ _ (c .before .before .before .before .before .before .run .ensures) (a .big) (a .a .now) (a .lengths .now) _ _
-    (c .before .before .before .join-cells .ensures) (c .raise .ensures)
+    extended-is (a .ring) (a .terms .now) (z .pre .0) (a .count) (z .pre .1) _ _ (c .before .before .before .before .before .before .before .run .ensures) (a .big) (a .a .now) (a .lengths .now) _ _
+    (c .join-cells .ensures) (c .before .before .before .before .raise .ensures)
 
 pub extend-spec : {M : Type 1} → statement M
-extend-spec = tie.close (tie.spec run-requires join-cells-requires raise-requires returns)
+extend-spec = tie.close (tie.spec run-requires raise-requires returns join-cells-requires returns-2)
