@@ -1,0 +1,149 @@
+-- Laws of records and catalogues: a record is filled part by part; a search stops at the first record of a query; what is found is in the catalogue.
+-- Assumes nothing.
+use mathlib.Core.Path.{_≡_, refl, sym, ap, _∙_, subst}
+use mathlib.Core.Bool.{Bool, true, false}
+use mathlib.Core.List.{List, [], _∷_, _++_, append-assoc, append-nil}
+use Prim.Native.Nat.{ℕ, _+_, _-_, _%_, _<_}
+use native.Mathlib.Nat.{lt-irrefl}
+use native.Mathlib.Omega.{arith}
+use lib.Dec.{ltb, eqb}
+use lib.ListN.{length, take, drop, length-drop, length-append, drop-of-length-le}
+use lib.Seq.{take-at, drop-at, take-take, length-take-le}
+use borrow.Rule.Slice.PartMut.{putMid, postOf}
+use borrow.Author.Tests.{lt-ltb, le-ltb, ltb-true}
+use Rattle.lists.specs.Choice.{pick}
+use Rattle.lists.specs.Search.{first}
+use Rattle.lists.proofs.Search.{is-first}
+use Rattle.cells.specs.Cell.{putCell, bytesOf, equal}
+use Rattle.cells.proofs.Laws.{length-bytesOf}
+use Rattle.synthesis.specs.declared.Synthesis.{Synthesis}
+use Rattle.synthesis.specs.Synthesis.{synthesisOf}
+use Rattle.sequence.specs.declared.Sequence.{Sequence}
+use Rattle.sequence.specs.declared.Refusal.the-variants as R
+use Rattle.sequence.specs.declared.Outcome.{Outcome}
+use Rattle.sequence.specs.declared.Outcome.the-variants as O
+use Rattle.sequence.specs.Rules.{sequenceOf, checkOf}
+use Rattle.catalogue.specs.declared.Match.{Match}
+use Rattle.catalogue.specs.declared.Match.the-variants as M
+use Rattle.catalogue.specs.declared.LookedUp.the-variants as S
+use Rattle.catalogue.specs.Rules.{layout, recordOf, recordAt, queryAt, records, firstMatch, matchOf, passes, serveOf, answerOf, orElse, lookUpOf}
+
+-- ---- filling a record
+
+-- one part more, after what is filled
+step : (p t ys : List ℕ) (a k : ℕ) → length p ≡ a → putMid a k (p ++ t) ys ≡ (p ++ ys) ++ drop k t
+step p t ys a k e = rw (take-at p t a e, drop-at p t a e) (sym (append-assoc p ys (drop k t)))
+
+three :
+    (out q l ab : List ℕ) → length out ≡ 776 → length q ≡ 260 → length l ≡ 2 →
+    putMid 262 514 (putMid 260 2 (q ++ postOf 0 260 out) l) ab ≡ q ++ (l ++ ab)
+three out q l ab ho hq hl =
+    ap (λ (z : List ℕ). putMid 262 514 z ab) (step q (postOf 0 260 out) l 260 2 hq)
+    ∙ step (q ++ l) (drop 2 (postOf 0 260 out)) ab 262 514 (length-append q l ∙ omega arith)
+    ∙ ap (λ (z : List ℕ). ((q ++ l) ++ ab) ++ z) none
+    ∙ append-nil ((q ++ l) ++ ab)
+    ∙ append-assoc q l ab
+  where
+    none : drop 514 (drop 2 (postOf 0 260 out)) ≡ []
+    none =
+        drop-of-length-le (drop 2 (postOf 0 260 out)) {i = 514}
+        (omega (arith, length-drop 2 (postOf 0 260 out), length-drop 260 out))
+
+one-cell : (xs : List ℕ) (v : ℕ) → length xs ≡ 2 → putCell xs 0 v ≡ bytesOf (v ∷ [])
+unfolding bytesOf
+one-cell [] v e = absurd (omega arith)
+one-cell (x ∷ []) v e = absurd (omega arith)
+one-cell (x ∷ y ∷ []) v e = refl
+one-cell (x ∷ y ∷ z ∷ xs) v e = absurd (omega arith)
+
+-- the record, by the three calls that fill it
+pub is-record :
+    (out query q l ab : List ℕ) (s : Sequence) (x : Synthesis) → length out ≡ 776 → length query ≡ 260 → q ≡ query →
+    l ≡ putCell (take 2 (drop 260 (q ++ postOf 0 260 out))) 0 (x .length) → ab ≡ bytesOf (x .a) ++ bytesOf (x .b) →
+    s ≡ sequenceOf query → x ≡ synthesisOf (s .modulus) (s .terms) (s .count) →
+    putMid 262 514 (putMid 260 2 (q ++ postOf 0 260 out) l) ab ≡ recordOf query
+unfolding recordOf layout synthesisOf
+is-record out query q l ab s x ho hq eq el eab es ex =
+    three out q l ab ho size-q (ap length line ∙ two-bytes (x .length))
+    ∙ ap (λ (z : List ℕ). z ++ (l ++ ab)) eq
+    ∙ ap (λ (z : List ℕ). query ++ (z ++ ab)) line
+    ∙ ap (λ (z : List ℕ). query ++ (bytesOf (x .length ∷ []) ++ z)) eab
+    ∙ ap (λ (z : Synthesis). query ++ (bytesOf (z .length ∷ []) ++ (bytesOf (z .a) ++ bytesOf (z .b)))) ex
+    ∙ ap (layout query) es
+  where
+    size-q : length q ≡ 260
+    size-q = ap length eq ∙ hq
+
+    two-bytes : (v : ℕ) → length (bytesOf (v ∷ [])) ≡ 2
+    two-bytes v = length-bytesOf (v ∷ [])
+
+    two : length (take 2 (drop 260 (q ++ postOf 0 260 out))) ≡ 2
+    two =
+        length-take-le 2 (drop 260 (q ++ postOf 0 260 out))
+        (omega (arith, length-drop 260 (q ++ postOf 0 260 out), length-append q (postOf 0 260 out), length-drop 260 out, size-q))
+
+    line : l ≡ bytesOf (x .length ∷ [])
+    line = el ∙ one-cell (take 2 (drop 260 (q ++ postOf 0 260 out))) (x .length) two
+
+-- ---- searching a catalogue
+
+-- record i, as the code cuts it out
+pub cut-record : (catalogue : List ℕ) (at : ℕ) → take (at + 776 - at) (drop at catalogue) ≡ take 776 (drop at catalogue)
+cut-record catalogue at =
+    let e : at + 776 - at ≡ 776 = omega arith in
+    ap (λ (z : ℕ). take z (drop at catalogue)) e
+
+-- the query in it
+pub cut-query :
+    (query catalogue : List ℕ) (at : ℕ) →
+    equal query (take 260 (take (at + 776 - at) (drop at catalogue))) ≡ equal query (take 260 (drop at catalogue))
+cut-query query catalogue at =
+    ap (λ (z : List ℕ). equal query (take 260 z)) (cut-record catalogue at)
+    ∙ ap (equal query) (take-take 260 776 (drop at catalogue) (omega arith))
+
+pub found :
+    (query catalogue : List ℕ) (i : ℕ) → i < records catalogue → ((j : ℕ) → j < i → equal query (queryAt catalogue j) ≡ false) →
+    equal query (queryAt catalogue i) ≡ true → M.At i ≡ matchOf (records catalogue) (firstMatch query catalogue (records catalogue))
+unfolding firstMatch
+found query catalogue i h b e =
+    let f : i ≡ first (records catalogue) (λ j. equal query (queryAt catalogue j)) = is-first (records catalogue) (λ j. equal query (queryAt catalogue j)) i (omega arith) b (λ k. e) in
+    rw (← f, lt-ltb i (records catalogue) h)
+
+pub missed :
+    (query catalogue : List ℕ) → ((j : ℕ) → j < records catalogue → equal query (queryAt catalogue j) ≡ false) →
+    M.Nowhere ≡ matchOf (records catalogue) (firstMatch query catalogue (records catalogue))
+unfolding firstMatch
+missed query catalogue b =
+    let n : ℕ = records catalogue in
+    let f : n ≡ first n (λ j. equal query (queryAt catalogue j)) = is-first n (λ j. equal query (queryAt catalogue j)) n (omega arith) b (λ k. absurd (lt-irrefl n k)) in
+    rw (← f, le-ltb n n (omega arith))
+
+-- a match is below the number of records that were searched
+pub match-below : (n k i : ℕ) → matchOf n k ≡ M.At i → i < n
+match-below n k i h = go (ltb k n) refl h
+  where
+    go : (b : Bool) → ltb k n ≡ b → pick b (M.At k) M.Nowhere ≡ M.At i → i < n
+    go true e q = let z : k ≡ i = cc in subst (λ (y : ℕ). y < n) z (ltb-true k n e)
+    go false e q = let z : _≡_ {A = ℕ} 0 1 = cc in absurd (omega arith)
+
+-- a record that is said to be found is in the catalogue
+pub found-below : (query catalogue out : List ℕ) (i : ℕ) → lookUpOf query catalogue out ≡ S.Found i → i < records catalogue
+unfolding lookUpOf answerOf
+found-below query catalogue out i h =
+    go (eqb (length out) 776) (checkOf query) (eqb (length catalogue % 776) 0) (matchOf (records catalogue) k) refl h
+  where
+    k : ℕ
+    k = firstMatch query catalogue (records catalogue)
+
+    served : (j : ℕ) (g : Bool) → matchOf (records catalogue) k ≡ M.At j → pick g (S.Found j) (S.Refused R.Record) ≡ S.Found i → i < records catalogue
+    served j true e q = let z : j ≡ i = cc in subst (λ (y : ℕ). y < records catalogue) z (match-below (records catalogue) k j e)
+    served j false e q = let z : _≡_ {A = ℕ} 0 1 = cc in absurd (omega arith)
+
+    go :
+        (b : Bool) (o : Outcome) (d : Bool) (f : Match) → matchOf (records catalogue) k ≡ f →
+        pick b (orElse o (pick d (serveOf query catalogue f) (S.Refused R.Catalogue))) (S.Refused R.Buffer) ≡ S.Found i → i < records catalogue
+    go false o d f e q = let z : _≡_ {A = ℕ} 0 1 = cc in absurd (omega arith)
+    go true (O.Refused r) d f e q = let z : _≡_ {A = ℕ} 0 1 = cc in absurd (omega arith)
+    go true O.Done false f e q = let z : _≡_ {A = ℕ} 0 1 = cc in absurd (omega arith)
+    go true O.Done true M.Nowhere e q = let z : _≡_ {A = ℕ} 0 1 = cc in absurd (omega arith)
+    go true O.Done true (M.At j) e q = served j (passes query (recordAt catalogue j)) e q

@@ -1,0 +1,65 @@
+-- `catalogue::answer` meets its contract: each reply is the one that its tests pick; a match is in the catalogue.
+-- Assumes nothing.
+use mathlib.Core.Path.{refl, sym, _∙_}
+use borrow.Author.Needs.{needs}
+use borrow.Author.Tests.{eq-eqb, ne-eqb}
+use Rattle.sequence.proofs.Laws.{check-done}
+use Rattle.catalogue.specs.Rules.{answerOf}
+use Rattle.catalogue.proofs.Laws.{match-below}
+use Rattle.catalogue.proofs.answer.Statement.{statement}
+use Rattle.catalogue.proofs.answer.Tie as tie
+
+returns : tie.Need-returns
+unfolding answerOf
+returns c = (simp (ne-eqb _ _ (c .if1 .taken)), refl)
+
+find-requires : tie.Need-find-requires
+find-requires c κs = check-done _ (c .before .before .before .before .pre .0) .0
+
+enum-known-f : tie.Need-enum-known-f
+enum-known-f c = search needs
+
+serve-requires : tie.Need-serve-requires
+serve-requires c κs =
+    let f = c .before .before .before .before in
+    (match-below _ _ _ (sym (f .find .ensures) ∙ c .before .before .f .given .1), f .before .before .before .before .before .pre .1)
+
+enum-told : tie.Need-enum-told
+enum-told c = search needs
+
+write-record-requires : tie.Need-write-record-requires
+write-record-requires c κs = search needs
+
+same-length : tie.Need-same-length
+same-length c = search needs
+
+returns-2 : tie.Need-returns-2
+unfolding answerOf
+returns-2 c =
+    let f = c .before .before .before .before .before .before .before in
+    let told = c .before .before .serve .ensures in
+    (simp (eq-eqb _ _ (f .before .if1 .left), ← f .find .ensures, c .before .before .before .before .before .f .given .1) (told .0), told .1)
+
+same-length-2 : tie.Need-same-length-2
+same-length-2 c = search needs
+
+returns-3 : tie.Need-returns-3
+unfolding answerOf
+returns-3 c =
+    let f = c .before .before .before .before .before .before in
+    (simp (eq-eqb _ _ (f .before .if1 .left), ← f .find .ensures, c .before .before .before .before .enum-told .given .1), c .before .before .write-record .ensures)
+
+pub answer-spec : {M : Type 1} → statement M
+answer-spec =
+    tie.close
+    (tie.spec
+    returns
+    find-requires
+    enum-known-f
+    serve-requires
+    enum-told
+    write-record-requires
+    same-length
+    returns-2
+    same-length-2
+    returns-3)

@@ -1,0 +1,80 @@
+-- `catalogue::is_good` meets its contract: yes is the only verdict that passes.
+-- Assumes nothing.
+use mathlib.Core.Path.{sym, ap, _∙_}
+use borrow.Author.Needs.{needs}
+use Rattle.catalogue.specs.Rules.{isYes, passes}
+use Rattle.catalogue.proofs.is_good.Statement.{statement}
+use Rattle.catalogue.proofs.is_good.Tie as tie
+
+cell-requires : tie.Need-cell-requires
+cell-requires c κs = search needs
+
+sub-verify : tie.Need-sub-verify
+sub-verify c = search needs
+
+part-verify-start : tie.Need-part-verify-start
+part-verify-start c = search needs
+
+part-verify-end : tie.Need-part-verify-end
+part-verify-end c = search needs
+
+sub-verify-2 : tie.Need-sub-verify-2
+sub-verify-2 c = search needs
+
+part-verify-start-2 : tie.Need-part-verify-start-2
+part-verify-start-2 c = search needs
+
+part-verify-end-2 : tie.Need-part-verify-end-2
+part-verify-end-2 c = search needs
+
+verify-requires : tie.Need-verify-requires
+verify-requires c κs = search needs
+
+enum-told : tie.Need-enum-told
+enum-told c = search needs
+
+enum-told-2 : tie.Need-enum-told-2
+enum-told-2 c = search needs
+
+enum-told-3 : tie.Need-enum-told-3
+enum-told-3 c = search needs
+
+returns : tie.Need-returns
+unfolding passes
+returns c =
+    let k = c .before .before in
+    let l = k .before .before .before .cell in
+    simp (← l .ensures .0) (ap isYes (sym (c .enum-told .given .1) ∙ k .verify .ensures))
+
+returns-2 : tie.Need-returns-2
+unfolding passes
+returns-2 c =
+    let k = c .before .before in
+    let l = k .before .before .before .cell in
+    simp (← l .ensures .0) (ap isYes (sym (c .enum-told2 .given .1) ∙ k .verify .ensures))
+
+returns-3 : tie.Need-returns-3
+unfolding passes
+returns-3 c =
+    let k = c .before .before in
+    let l = k .before .before .before .cell in
+    simp (← l .ensures .0) (ap isYes (sym (c .enum-told3 .given .1) ∙ k .verify .ensures))
+
+pub is-good-spec : {M : Type 1} → statement M
+is-good-spec =
+    tie.close
+    (tie.spec
+    cell-requires
+    sub-verify
+    part-verify-start
+    part-verify-end
+    sub-verify-2
+    part-verify-start-2
+    part-verify-end-2
+    verify-requires
+    enum-told
+    enum-told-2
+    enum-told-3
+    returns
+    returns-2
+    returns-3)

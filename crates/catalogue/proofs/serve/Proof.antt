@@ -1,0 +1,60 @@
+-- `catalogue::serve` meets its contract: the record is copied where its register passes.
+-- Assumes nothing.
+use mathlib.Core.Path.{refl, _∙_}
+use Prim.Native.Nat.{_*_}
+use borrow.Author.Needs.{needs}
+use Rattle.catalogue.proofs.Laws.{cut-record}
+use Rattle.catalogue.proofs.serve.Statement.{statement}
+use Rattle.catalogue.proofs.serve.Tie as tie
+
+mul-at : tie.Need-mul-at
+mul-at c = search needs
+
+add-entry : tie.Need-add-entry
+add-entry c = search needs
+
+sub-entry : tie.Need-sub-entry
+sub-entry c = search needs
+
+part-entry-start : tie.Need-part-entry-start
+part-entry-start c = search needs
+
+part-entry-end : tie.Need-part-entry-end
+part-entry-end c = search needs
+
+is-good-requires : tie.Need-is-good-requires
+is-good-requires c κs = search needs
+
+copy-requires : tie.Need-copy-requires
+copy-requires c κs = search needs
+
+same-length : tie.Need-same-length
+same-length c = search needs
+
+returns : tie.Need-returns
+returns c =
+    let g = c .before .before .before .before in
+    let s = g .before .before .before .before .before .before .args in (
+      simp (← cut-record (s .catalogue .now) (s .i * 776), ← g .before .is-good .ensures, g .if1 .taken),
+      c .before .before .copy .ensures ∙ cut-record (s .catalogue .now) (s .i * 776),
+    )
+
+returns-2 : tie.Need-returns-2
+returns-2 c =
+    let s = c .before .before .before .before .before .before .args in
+    (simp (← cut-record (s .catalogue .now) (s .i * 776), ← c .before .is-good .ensures, c .if1 .left), refl)
+
+pub serve-spec : {M : Type 1} → statement M
+serve-spec =
+    tie.close
+    (tie.spec
+    mul-at
+    add-entry
+    sub-entry
+    part-entry-start
+    part-entry-end
+    is-good-requires
+    copy-requires
+    same-length
+    returns
+    returns-2)

@@ -1,0 +1,104 @@
+-- Records and catalogues (the paper's shelf): the record made of a query, and what looking one up replies.
+-- Assumes nothing.
+use mathlib.Core.Bool.{Bool, true, false}
+use mathlib.Core.List.{List, [], _∷_, _++_}
+use Prim.Native.Nat.{ℕ, _*_, _/_, _%_}
+use lib.Dec.{ltb, eqb}
+use lib.ListN.{length, take, drop}
+use Rattle.lists.specs.Choice.{pick}
+use Rattle.lists.specs.Search.{first}
+use Rattle.cells.specs.Cell.{cellAt, bytesOf, equal}
+use Rattle.sequence.specs.declared.Sequence.{Sequence}
+use Rattle.sequence.specs.declared.Refusal.{Refusal}
+use Rattle.sequence.specs.declared.Refusal.the-variants as R
+use Rattle.sequence.specs.declared.Outcome.{Outcome}
+use Rattle.sequence.specs.declared.Outcome.the-variants as O
+use Rattle.sequence.specs.Limits.{queryBytes, aBytes, bBytes}
+use Rattle.sequence.specs.Rules.{sequenceOf, checkOf}
+use Rattle.sequence.specs.Report.{registerOf, aBuffer, bBuffer, filled}
+use Rattle.candidate.specs.declared.Verdict.{Verdict}
+use Rattle.candidate.specs.declared.Verdict.the-variants as W
+use Rattle.candidate.specs.Rules.{verifyOf}
+use Rattle.catalogue.specs.declared.LookedUp.{LookedUp}
+use Rattle.catalogue.specs.declared.LookedUp.the-variants as S
+use Rattle.catalogue.specs.declared.Match.{Match}
+use Rattle.catalogue.specs.declared.Match.the-variants as M
+
+-- a record: the query at 0, the length at 260, a at 262, b at 520
+abbrev pub recordBytes : ℕ
+recordBytes = 776
+
+abbrev pub aPlace : ℕ
+aPlace = 262
+
+abbrev pub bPlace : ℕ
+bPlace = 520
+
+-- the length stands in this cell
+abbrev pub lengthCell : ℕ
+lengthCell = 130
+
+-- the record of a sequence, behind the bytes of its query
+unfoldable pub layout : List ℕ → Sequence → List ℕ
+layout query s = query ++ (bytesOf (registerOf s .length ∷ []) ++ (aBuffer s ++ bBuffer s))
+
+unfoldable pub recordOf : List ℕ → List ℕ
+recordOf query = layout query (sequenceOf query)
+
+-- 5 (query, record), 1, 2, 3, 4, in this order
+unfoldable pub synthesizeOf : List ℕ → List ℕ → Outcome
+synthesizeOf query out = pick (eqb (length out) recordBytes) (checkOf query) (O.Refused R.Buffer)
+
+-- ---- looking up
+
+-- record i of a catalogue, and the query in it
+abbrev pub recordAt : List ℕ → ℕ → List ℕ
+recordAt catalogue i = take recordBytes (drop (i * recordBytes) catalogue)
+
+abbrev pub queryAt : List ℕ → ℕ → List ℕ
+queryAt catalogue i = take queryBytes (drop (i * recordBytes) catalogue)
+
+abbrev pub records : List ℕ → ℕ
+records catalogue = length catalogue / recordBytes
+
+-- the first of n records whose first 260 bytes are the query's; n where there is none
+unfoldable pub firstMatch : List ℕ → List ℕ → ℕ → ℕ
+firstMatch query catalogue n = first n (λ i. equal query (queryAt catalogue i))
+
+abbrev pub matchOf : ℕ → ℕ → Match
+matchOf n i = pick (ltb i n) (M.At i) M.Nowhere
+
+abbrev pub isYes : Verdict → Bool
+isYes W.Yes = true
+isYes (W.No i) = false
+isYes (W.Refused r) = false
+
+-- the register in a record is a well-formed candidate that passes the test against the query
+unfoldable pub passes : List ℕ → List ℕ → Bool
+passes query entry = isYes (verifyOf query (take aBytes (drop aPlace entry)) (take bBytes (drop bPlace entry)) (cellAt entry lengthCell))
+
+-- the first match alone decides: 24, or it is served
+abbrev pub serveOf : List ℕ → List ℕ → Match → LookedUp
+serveOf query catalogue (M.At i) = pick (passes query (recordAt catalogue i)) (S.Found i) (S.Refused R.Record)
+serveOf query catalogue M.Nowhere = S.Made
+
+-- the answer to a query that passed its checks: 23, 24, or found, or made
+unfoldable pub answerOf : List ℕ → List ℕ → LookedUp
+answerOf query catalogue =
+    pick (eqb (length catalogue % recordBytes) 0)
+    (serveOf query catalogue (matchOf (records catalogue) (firstMatch query catalogue (records catalogue))))
+    (S.Refused R.Catalogue)
+
+abbrev pub orElse : Outcome → LookedUp → LookedUp
+orElse O.Done t = t
+orElse (O.Refused r) t = S.Refused r
+
+-- 5 (query, record), 1, 2, 3, 4, 23, 24, in this order
+unfoldable pub lookUpOf : List ℕ → List ℕ → List ℕ → LookedUp
+lookUpOf query catalogue out = pick (eqb (length out) recordBytes) (orElse (checkOf query) (answerOf query catalogue)) (S.Refused R.Buffer)
+
+-- the record at exit: the one found, the one made, or as lent
+abbrev pub servedIn : LookedUp → List ℕ → List ℕ → List ℕ → List ℕ
+servedIn (S.Found i) query catalogue out = recordAt catalogue i
+servedIn S.Made query catalogue out = recordOf query
+servedIn (S.Refused r) query catalogue out = out

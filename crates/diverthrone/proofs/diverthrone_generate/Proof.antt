@@ -1,0 +1,56 @@
+-- `diverthrone_generate` meets its contract: each outcome goes to its number.
+-- Assumes nothing.
+use mathlib.Core.Path.{sym, ap, _∙_}
+use borrow.Author.Needs.{needs}
+use Rattle.sequence.specs.declared.Outcome.{Outcome}
+use Rattle.candidate.specs.Rules.{generatedIn}
+use Rattle.diverthrone.specs.Codes.{outcomeCode}
+use Rattle.diverthrone.proofs.diverthrone_generate.Statement.{statement}
+use Rattle.diverthrone.proofs.diverthrone_generate.Tie as tie
+
+generate-requires : tie.Need-generate-requires
+generate-requires c κs = search needs
+
+enum-told : tie.Need-enum-told
+enum-told c = search needs
+
+enum-known-o : tie.Need-enum-known-o
+enum-known-o c = search needs
+
+number-requires : tie.Need-number-requires
+number-requires c κs = search needs
+
+same-length : tie.Need-same-length
+same-length c = search needs
+
+returns : tie.Need-returns
+returns c =
+    let m = c .before .before .before .before in
+    let s = m .before .before .before .before .before .args in (
+      ap outcomeCode (sym (c .enum-told .given .1) ∙ m .generate .ensures .0),
+      m .generate .ensures .1 ∙ ap (λ (z : Outcome). generatedIn z (s .modulus) (s .a .now) (s .b .now) (s .length) (s .out .now)) (m .generate .ensures .0),
+    )
+
+same-length-2 : tie.Need-same-length-2
+same-length-2 c = search needs
+
+returns-2 : tie.Need-returns-2
+returns-2 c =
+    let m = c .before .before .before .before .before .before in
+    let s = m .before .before .before .before .before .args in (
+      c .number .ensures .0 ∙ ap outcomeCode (sym (c .before .before .o .given .1) ∙ m .generate .ensures .0),
+      m .generate .ensures .1 ∙ ap (λ (z : Outcome). generatedIn z (s .modulus) (s .a .now) (s .b .now) (s .length) (s .out .now)) (m .generate .ensures .0),
+    )
+
+pub diverthrone-generate-spec : {M : Type 1} → statement M
+diverthrone-generate-spec =
+    tie.close
+    (tie.spec
+    generate-requires
+    enum-told
+    enum-known-o
+    number-requires
+    same-length
+    returns
+    same-length-2
+    returns-2)

@@ -1,0 +1,57 @@
+-- `diverthrone_synthesize` meets its contract: each outcome goes to its number.
+-- Assumes nothing.
+use mathlib.Core.Path.{sym, ap, _∙_}
+use borrow.Author.Needs.{needs}
+use Rattle.sequence.specs.declared.Outcome.{Outcome}
+use Rattle.sequence.specs.Report.{filled}
+use Rattle.catalogue.specs.Rules.{recordOf}
+use Rattle.diverthrone.specs.Codes.{outcomeCode}
+use Rattle.diverthrone.proofs.diverthrone_synthesize.Statement.{statement}
+use Rattle.diverthrone.proofs.diverthrone_synthesize.Tie as tie
+
+synthesize-requires : tie.Need-synthesize-requires
+synthesize-requires c κs = search needs
+
+enum-told : tie.Need-enum-told
+enum-told c = search needs
+
+enum-known-o : tie.Need-enum-known-o
+enum-known-o c = search needs
+
+number-requires : tie.Need-number-requires
+number-requires c κs = search needs
+
+same-length : tie.Need-same-length
+same-length c = search needs
+
+returns : tie.Need-returns
+returns c =
+    let m = c .before .before .before .before in
+    let s = m .before .before .before .before .args in (
+      ap outcomeCode (sym (c .enum-told .given .1) ∙ m .synthesize .ensures .0),
+      m .synthesize .ensures .1 ∙ ap (λ (z : Outcome). filled z (recordOf (s .query .now)) (s .out .now)) (m .synthesize .ensures .0),
+    )
+
+same-length-2 : tie.Need-same-length-2
+same-length-2 c = search needs
+
+returns-2 : tie.Need-returns-2
+returns-2 c =
+    let m = c .before .before .before .before .before .before in
+    let s = m .before .before .before .before .args in (
+      c .number .ensures .0 ∙ ap outcomeCode (sym (c .before .before .o .given .1) ∙ m .synthesize .ensures .0),
+      m .synthesize .ensures .1 ∙ ap (λ (z : Outcome). filled z (recordOf (s .query .now)) (s .out .now)) (m .synthesize .ensures .0),
+    )
+
+pub diverthrone-synthesize-spec : {M : Type 1} → statement M
+diverthrone-synthesize-spec =
+    tie.close
+    (tie.spec
+    synthesize-requires
+    enum-told
+    enum-known-o
+    number-requires
+    same-length
+    returns
+    same-length-2
+    returns-2)

@@ -1,0 +1,73 @@
+// The functions for C. A slice passes as a pointer and a length; include/diverthrone.h has the declarations.
+use candidate::Verdict;
+use catalogue::LookedUp;
+use sequence::Outcome;
+ghost use mathlib.Core.Path.{_≡_};
+ghost use Prim.Native.Nat.{_≤_, _<_};
+ghost use Rattle.sequence.specs.Report.{filled};
+ghost use Rattle.candidate.specs.Rules.{verifyOf, generateOf, generatedIn};
+ghost use Rattle.catalogue.specs.Rules.{recordOf, synthesizeOf, lookUpOf, servedIn};
+ghost use Rattle.diverthrone.specs.Codes.{outcomeCode, verdictCode, lookedUpCode};
+
+// Makes the record of a query.
+// Rejected: one that refuses every query; one that writes the query's bytes before it refuses.
+#[no_mangle]
+pub extern "C" fn diverthrone_synthesize(query: &[u8], out: &mut [u8]) -> u64
+    ensures { λ r. ⌜ r ≡ outcomeCode (synthesizeOf (now (query .entry)) (now (out .entry))) ⌝ }
+    ensures { λ r. ⌜ now (out .exit) ≡ filled (synthesizeOf (now (query .entry)) (now (out .entry))) (recordOf (now (query .entry))) (now (out .entry)) ⌝ }
+{
+    let o = catalogue::synthesize(query, out);
+    match o {
+        Outcome::Done => 0,
+        Outcome::Refused(r) => sequence::number(r),
+    }
+}
+
+// Looks a query up in a catalogue.
+// Rejected: one that says made before it looks; one that serves a record whose place it does not tell.
+#[no_mangle]
+pub extern "C" fn diverthrone_look_up(query: &[u8], catalogue: &[u8], out: &mut [u8]) -> u64
+    ensures { λ r. ⌜ r ≡ lookedUpCode (lookUpOf (now (query .entry)) (now (catalogue .entry)) (now (out .entry))) ⌝ }
+    ensures { λ r. ⌜ now (out .exit) ≡ servedIn (lookUpOf (now (query .entry)) (now (catalogue .entry)) (now (out .entry))) (now (query .entry)) (now (catalogue .entry)) (now (out .entry)) ⌝ }
+{
+    let t = catalogue::look_up(query, catalogue, out);
+    match t {
+        LookedUp::Made => 0,
+        LookedUp::Found(i) => 256 * (1 + i as u64),
+        LookedUp::Refused(r) => sequence::number(r),
+    }
+}
+
+// Tests a candidate against a query.
+// Rejected: one that says no without the place; one that answers a malformed candidate with no.
+#[no_mangle]
+pub extern "C" fn diverthrone_verify(query: &[u8], a: &[u8], b: &[u8], length: u32) -> u64
+    ensures { λ r. ⌜ r ≡ verdictCode (verifyOf (now (query .entry)) (now (a .entry)) (now (b .entry)) length) ⌝ }
+{
+    let v = candidate::verify(query, a, b, length);
+    match v {
+        Verdict::Yes => 0,
+        Verdict::No(i) => 256 * (1 + i as u64),
+        Verdict::Refused(r) => sequence::number(r),
+    }
+}
+
+// Runs a candidate for as many cells as are lent.
+// Rejected: one that fills all cells but the last; one that runs a candidate with a_0 = 2.
+#[no_mangle]
+pub extern "C" fn diverthrone_generate(
+    modulus: u32,
+    a: &[u8],
+    b: &[u8],
+    length: u32,
+    out: &mut [u8],
+) -> u64
+    ensures { λ r. ⌜ r ≡ outcomeCode (generateOf modulus (now (a .entry)) (now (b .entry)) length (now (out .entry))) ⌝ }
+    ensures { λ r. ⌜ now (out .exit) ≡ generatedIn (generateOf modulus (now (a .entry)) (now (b .entry)) length (now (out .entry))) modulus (now (a .entry)) (now (b .entry)) length (now (out .entry)) ⌝ }
+{
+    let o = candidate::generate(modulus, a, b, length, out);
+    match o {
+        Outcome::Done => 0,
+        Outcome::Refused(r) => sequence::number(r),
+    }
+}

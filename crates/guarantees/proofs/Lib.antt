@@ -1,0 +1,5 @@
+pub mod State
+pub mod Demand
+pub mod Records
+pub mod Cases
+pub mod Driving

@@ -1,0 +1,283 @@
+-- The record made of a query, the record served for it and the register after calls that take its terms are the same.
+-- Assumes nothing.
+use mathlib.Core.Path.{_≡_, refl, sym, ap, ap₂, _∙_, subst, fun-ext}
+use mathlib.Core.Logic.{_⊎_, inl, inr}
+use mathlib.Core.List.{List, [], _∷_, _++_}
+use mathlib.Core.Bool.{Bool, true, false}
+use Prim.Native.Nat.{ℕ, zero, suc, _+_, _*_, _-_, _/_, _%_, _≤_, _<_}
+use native.Mathlib.Nat.{mod-eq-of-lt, le-refl}
+use native.Mathlib.Omega.{arith}
+use lib.Dec.{ltb, eqb}
+use lib.ListN.{length, take, drop, replicate, length-append, length-replicate, getD-replicate, List·getD-append}
+use lib.Seq.{ext-getD, length-take-le, getD-take, getD-append-add, take-take}
+use borrow.Author.Tests.{eq-eqb, lt-ltb, le-ltb, eqb-true}
+use Rattle.lists.specs.Choice.{pick}
+use Rattle.lists.specs.Table.{at, tabulate}
+use Rattle.lists.specs.Search.{first}
+use Rattle.lists.proofs.Table.{length-tabulate, at-tabulate, at-tabulate-all, tabulate-eq}
+use Rattle.lists.proofs.Search.{first-passes, first-le, lt-or-le, false-true}
+use Rattle.cells.specs.Cell.{cellAt, cellsFrom, bytesOf, equal}
+use Rattle.cells.proofs.Laws.{equal-eq}
+use Rattle.recurrence.specs.Polynomial.{conv}
+use Rattle.recurrence.specs.Register.{Register, register}
+use Rattle.recurrence.specs.Running.{firstDifference}
+use Rattle.recurrence.proofs.Register.{Right, register-right}
+use Rattle.sequence.specs.declared.Sequence.{Sequence}
+use Rattle.sequence.specs.declared.Refusal.the-variants as R
+use Rattle.sequence.specs.declared.Outcome.{Outcome}
+use Rattle.sequence.specs.declared.Outcome.the-variants.{Done, Refused}
+use Rattle.sequence.specs.declared.Reported.{Reported}
+use Rattle.sequence.specs.declared.Reported.the-variants.{Length}
+use Rattle.sequence.specs.Limits.{maxModulus, maxTerms, queryBytes, aBytes, bBytes}
+use Rattle.sequence.specs.Rules.{openOf, sequenceOf, checkOf, faultOf, refusalOf, IsSound}
+use Rattle.sequence.specs.Report.{registerOf, aBuffer, bBuffer, reportOf, written, filled}
+use Rattle.sequence.proofs.Laws.{check-done}
+use Rattle.candidate.specs.declared.Verdict.{Verdict}
+use Rattle.candidate.specs.declared.Verdict.the-variants as W
+use Rattle.candidate.specs.declared.Flaw.{Flaw}
+use Rattle.candidate.specs.Rules.{aCells, bCells, flawOf, isFine, verdictOf, judgeOf, verifyOf, orElse}
+use Rattle.candidate.proofs.Laws.{IsFine, of-fine, no-difference}
+use Rattle.catalogue.specs.declared.LookedUp.{LookedUp}
+use Rattle.catalogue.specs.declared.LookedUp.the-variants.{Found, Made}
+use Rattle.catalogue.specs.Rules.{recordBytes, aPlace, bPlace, lengthCell, layout, recordOf, synthesizeOf, recordAt, queryAt, records, firstMatch, matchOf, isYes, passes, serveOf, answerOf, lookUpOf, servedIn}
+use Rattle.catalogue.proofs.Places.{length-a, length-b, layout-length, layout-query, layout-a, layout-b, layout-length-cell}
+use Rattle.guarantees.specs.Calls.{Call, afterAll, taken}
+use Rattle.guarantees.specs.Claims.{MadeRecord, MadeCatalogue, termsOf, AgreesWith, Same, MadeServedReported}
+use Rattle.guarantees.proofs.State.{holding, padded, padded-at, Good, state}
+use Rattle.guarantees.proofs.Demand.{cell-of, reported, same-register}
+
+-- the numbers that were written are read back
+cells-back : (n : ℕ) (f : ℕ → ℕ) → ((i : ℕ) → i < n → f i < 65536) → cellsFrom (bytesOf (tabulate n f)) 0 n ≡ tabulate n f
+cells-back n f small =
+    tabulate-eq n (λ i. cellAt (bytesOf (tabulate n f)) (0 + i)) f
+    (λ i h. ap (cellAt (bytesOf (tabulate n f))) (let e : 0 + i ≡ i = omega arith in e) ∙ cell-of n f i h (small i h))
+
+module _ (query : List ℕ) (fine : checkOf query ≡ Done) where
+  s : Sequence
+  s = sequenceOf query
+
+  size : length query ≡ queryBytes
+  size = check-done query fine .0
+
+  sound : IsSound s
+  unfolding s
+  sound = check-done query fine .1
+
+  right : Right (sequenceOf query .modulus) (sequenceOf query .terms) (sequenceOf query .count) (registerOf (sequenceOf query))
+  unfolding s
+  right = register-right (sequenceOf query .modulus) (sound .least) (sequenceOf query .terms) (sequenceOf query .count)
+
+  -- ---- the query's sequence is the one that holds its terms
+
+  long : length (sequenceOf query .terms) ≡ 128
+  unfolding sequenceOf
+  long = length-tabulate 128 _
+
+  terms-long : length (termsOf query) ≡ sequenceOf query .count
+  unfolding s sequenceOf
+  terms-long = length-take-le (cellAt query 1) _ (omega (arith, long, sound .count))
+
+  terms-padded : padded (termsOf query) ≡ sequenceOf query .terms
+  unfolding s sequenceOf
+  terms-padded =
+      ext-getD 0 (padded (termsOf query)) (sequenceOf query .terms)
+      (omega (arith, length-append (termsOf query) (replicate (128 - length (termsOf query)) 0), length-replicate {A = ℕ} (128 - length (termsOf query)) 0, terms-long, long, sound .count))
+      (λ i h. go i h (lt-or-le i (length (termsOf query))))
+    where
+      total : length (padded (termsOf query)) ≡ 128
+      total = omega (arith, length-append (termsOf query) (replicate (128 - length (termsOf query)) 0), length-replicate {A = ℕ} (128 - length (termsOf query)) 0, terms-long, sound .count)
+
+      go : (i : ℕ) → i < length (padded (termsOf query)) → (i < length (termsOf query)) ⊎ (length (termsOf query) ≤ i)
+          → at (padded (termsOf query)) i ≡ at (sequenceOf query .terms) i
+      go i h (inl k) = padded-at (termsOf query) i k ∙ getD-take (cellAt query 1) _ i 0 (omega (arith, terms-long))
+      go i h (inr k) =
+          let d : ℕ = i - length (termsOf query) in
+          let e : length (termsOf query) + d ≡ i = omega arith in
+          subst (λ (z : ℕ). at (padded (termsOf query)) z ≡ 0) e
+          (getD-append-add (termsOf query) (replicate (128 - length (termsOf query)) 0) d 0 ∙ getD-replicate (128 - length (termsOf query)) d 0 0 (omega (arith, total)))
+          ∙ sym (sound .zeros i (omega (arith, terms-long)) (omega (arith, total)))
+
+  held : holding (cellAt query 0) (termsOf query) ≡ sequenceOf query
+  unfolding sequenceOf
+  held = λ i. record { modulus = cellAt query 0; count = terms-long i; terms = terms-padded i }
+
+  good : Good (cellAt query 0) (termsOf query)
+  unfolding s sequenceOf
+  good =
+      record {
+        size = omega (arith, terms-long, sound .count);
+        below = λ j h. subst (λ (z : ℕ). z < cellAt query 0) (sym (getD-take (cellAt query 1) _ j 0 (omega (arith, terms-long)))) (sound .below j (omega (arith, terms-long)));
+      }
+
+  least : 2 ≤ cellAt query 0
+  unfolding s sequenceOf
+  least = sound .least
+
+  most : cellAt query 0 ≤ maxModulus
+  unfolding s sequenceOf
+  most = sound .most
+
+  short : registerOf (sequenceOf query) .length ≤ 128
+  unfolding s
+  short = omega (arith, right .short, sound .count)
+
+  small : registerOf (sequenceOf query) .length < 65536
+  small = omega (arith, short)
+
+  -- ---- the record agrees with the register
+
+  pub agrees : (calls : List Call) (a b : List ℕ) → taken (cellAt query 0) calls ≡ termsOf query → length a ≡ aBytes → length b ≡ bBytes
+      → AgreesWith (cellAt query 0) calls a b (recordOf query)
+  unfolding recordOf
+  agrees calls a b h ha hb =
+      record {
+        length-same = answer ∙ ap Length (sym (layout-length-cell query (sequenceOf query) size small));
+        a-same =
+            ap₂ (λ (r : Reported) (t : Sequence). written r (aBuffer t) a) answer reached ∙ sym (layout-a query (sequenceOf query) size);
+        b-same =
+            ap₂ (λ (r : Reported) (t : Sequence). written r (bBuffer t) b) answer reached ∙ sym (layout-b query (sequenceOf query) size);
+      }
+    where
+      reached : afterAll (openOf (cellAt query 0) .sequence) calls ≡ sequenceOf query
+      reached = state (cellAt query 0) least most calls ∙ ap (holding (cellAt query 0)) h ∙ held
+
+      answer : reportOf (afterAll (openOf (cellAt query 0) .sequence) calls) a b ≡ Length (registerOf (sequenceOf query) .length)
+      answer =
+          ap (λ (t : Sequence). reportOf t a b) (reached ∙ sym held)
+          ∙ reported (cellAt query 0) least most (termsOf query) good a b ha hb
+          ∙ ap Length (sym (same-length) ∙ ap (λ (t : Sequence). registerOf t .length) held)
+        where
+          same-length : registerOf (holding (cellAt query 0) (termsOf query)) .length ≡ register (cellAt query 0) (termsOf query) (length (termsOf query)) .length
+          same-length = ap (λ (y : Register). y .length) (same-register (cellAt query 0) least most (termsOf query) good)
+
+  -- ---- the record passes its own test
+
+  a-back : aCells (aBuffer (sequenceOf query)) ≡ tabulate 129 (at (registerOf (sequenceOf query) .a))
+  unfolding s
+  a-back = cells-back 129 (at (registerOf (sequenceOf query) .a)) (λ i h. omega (arith, right .small-a i, sound .most))
+
+  b-back : bCells (bBuffer (sequenceOf query)) ≡ tabulate 128 (at (registerOf (sequenceOf query) .b))
+  unfolding s
+  b-back = cells-back 128 (at (registerOf (sequenceOf query) .b)) (λ i h. omega (arith, right .small-b i, sound .most))
+
+  -- cutting at 129 and 128 cells loses nothing
+  a-all : (i : ℕ) → at (tabulate 129 (at (registerOf (sequenceOf query) .a))) i ≡ at (registerOf (sequenceOf query) .a) i
+  a-all = at-tabulate-all 129 _ (λ i h. right .past-a i (omega (arith, short)))
+
+  b-all : (i : ℕ) → at (tabulate 128 (at (registerOf (sequenceOf query) .b))) i ≡ at (registerOf (sequenceOf query) .b) i
+  b-all = at-tabulate-all 128 _ (λ i h. right .past-b i (omega (arith, short)))
+
+  fine-candidate : IsFine (sequenceOf query .modulus) (registerOf (sequenceOf query) .length)
+      (tabulate 129 (at (registerOf (sequenceOf query) .a))) (tabulate 128 (at (registerOf (sequenceOf query) .b)))
+  fine-candidate =
+      record {
+        short = short;
+        below-a = λ i h. subst (λ (z : ℕ). z < sequenceOf query .modulus) (sym (a-all i)) (right .small-a i);
+        below-b = λ i h. subst (λ (z : ℕ). z < sequenceOf query .modulus) (sym (b-all i)) (right .small-b i);
+        past-a = λ i h k. a-all i ∙ right .past-a i h;
+        past-b = λ i h k. b-all i ∙ right .past-b i h;
+        lead = a-all 0 ∙ right .one;
+      }
+
+  agree : firstDifference (sequenceOf query .modulus) (sequenceOf query .terms) (tabulate 129 (at (registerOf (sequenceOf query) .a)))
+      (tabulate 128 (at (registerOf (sequenceOf query) .b))) (sequenceOf query .count) ≡ sequenceOf query .count
+  agree =
+      no-difference (sequenceOf query .modulus) (sequenceOf query .terms) _ _ (sequenceOf query .count)
+      (λ j h. ap (λ (f : ℕ → ℕ). conv (at (sequenceOf query .terms)) f j % sequenceOf query .modulus) (fun-ext a-all)
+      ∙ right .generates j h .same ∙ mod-eq-of-lt (right .small-b j) ∙ sym (b-all j))
+
+  judged : judgeOf (sequenceOf query) (aCells (aBuffer (sequenceOf query))) (bCells (bBuffer (sequenceOf query))) (registerOf (sequenceOf query) .length) ≡ W.Yes
+  unfolding judgeOf
+  judged =
+      ap₂ (λ (a b : List ℕ). judgeOf (sequenceOf query) a b (registerOf (sequenceOf query) .length)) a-back b-back
+      ∙ rw (of-fine _ _ _ _ fine-candidate, agree, le-ltb (sequenceOf query .count) (sequenceOf query .count) (le-refl _))
+
+  pub record-passes : passes query (recordOf query) ≡ true
+  unfolding passes recordOf verifyOf
+  record-passes =
+      rw (layout-a query (sequenceOf query) size, layout-b query (sequenceOf query) size, layout-length-cell query (sequenceOf query) size small,
+      eq-eqb (length (aBuffer (sequenceOf query))) 258 (length-a (sequenceOf query)), eq-eqb (length (bBuffer (sequenceOf query))) 256 (length-b (sequenceOf query)), fine, judged)
+
+record-query : (query : List ℕ) → length query ≡ queryBytes → take queryBytes (recordOf query) ≡ query
+unfolding recordOf
+record-query query h = layout-query query (sequenceOf query) h
+
+-- ---- making
+
+making : (query out : List ℕ) → checkOf query ≡ Done → length out ≡ recordBytes → synthesizeOf query out ≡ Done
+unfolding synthesizeOf
+making query out fine h = rw (eq-eqb (length out) 776 h) fine
+
+making-checked : (query out : List ℕ) → synthesizeOf query out ≡ Done → checkOf query ≡ Done
+unfolding synthesizeOf
+making-checked query out h = go (eqb (length out) 776) h
+  where
+    go : (t : Bool) → pick t (checkOf query) (Refused R.Buffer) ≡ Done → checkOf query ≡ Done
+    go true h = h
+    go false h = let z : _≡_ {A = ℕ} 0 1 = cc in absurd (omega arith)
+
+-- a made record with this query in front is the record of this query
+made-same : (query entry : List ℕ) → MadeRecord entry → take queryBytes entry ≡ query → entry ≡ recordOf query
+made-same query entry made h = is ∙ ap recordOf same
+  where
+    is : entry ≡ recordOf (made .query)
+    is = made .same ∙ ap (λ (o : Outcome). filled o (recordOf (made .query)) (made .out)) (made .made)
+
+    same : made .query ≡ query
+    same =
+        sym (record-query (made .query) (check-done (made .query) (making-checked (made .query) (made .out) (made .made)) .0))
+        ∙ ap (take 260) (sym is) ∙ h
+
+-- ---- serving
+
+module _ (query catalogue out : List ℕ) (fine : checkOf query ≡ Done) (made : MadeCatalogue catalogue) (long : length out ≡ recordBytes) where
+  looked : lookUpOf query catalogue out ≡ serveOf query catalogue (matchOf (records catalogue) (firstMatch query catalogue (records catalogue)))
+  unfolding lookUpOf answerOf
+  looked = rw (eq-eqb (length out) 776 long, fine, eq-eqb (length catalogue % 776) 0 (made .whole))
+
+  found-record : firstMatch query catalogue (records catalogue) < records catalogue → recordAt catalogue (firstMatch query catalogue (records catalogue)) ≡ recordOf query
+  unfolding firstMatch
+  found-record h = made-same query (recordAt catalogue j) (made .each j h) key
+    where
+      j : ℕ
+      j = firstMatch query catalogue (records catalogue)
+
+      key : take 260 (recordAt catalogue j) ≡ query
+      key =
+          take-take 260 776 (drop (j * 776) catalogue) (omega arith)
+          ∙ sym (equal-eq query (queryAt catalogue j) (first-passes (records catalogue) (λ k. equal query (queryAt catalogue k)) h))
+
+  outcome : (((j : ℕ) × (lookUpOf query catalogue out ≡ Found j)) ⊎ (lookUpOf query catalogue out ≡ Made))
+      × (servedIn (lookUpOf query catalogue out) query catalogue out ≡ recordOf query)
+  outcome = go (lt-or-le j (records catalogue))
+    where
+      j : ℕ
+      j = firstMatch query catalogue (records catalogue)
+
+      go : (j < records catalogue) ⊎ (records catalogue ≤ j)
+          → (((j : ℕ) × (lookUpOf query catalogue out ≡ Found j)) ⊎ (lookUpOf query catalogue out ≡ Made))
+          × (servedIn (lookUpOf query catalogue out) query catalogue out ≡ recordOf query)
+      go (inl h) = (inl (j, at-j), ap (λ (t : LookedUp). servedIn t query catalogue out) at-j ∙ found-record h)
+        where
+          at-j : lookUpOf query catalogue out ≡ Found j
+          at-j = looked ∙ rw (lt-ltb j (records catalogue) h, found-record h, record-passes query fine)
+      go (inr h) = (inr none, ap (λ (t : LookedUp). servedIn t query catalogue out) none)
+        where
+          none : lookUpOf query catalogue out ≡ Made
+          none = looked ∙ rw (le-ltb j (records catalogue) h)
+
+pub same : MadeServedReported
+unfolding MadeServedReported
+same query catalogue out fine made long =
+    record {
+      made = making query out fine long;
+      served = o .0;
+      record-made = λ calls a b h ha hb.
+          subst (AgreesWith (cellAt query 0) calls a b)
+          (sym (ap (λ (t : Outcome). filled t (recordOf query) out) (making query out fine long))) (agrees query fine calls a b h ha hb);
+      record-served = λ calls a b h ha hb. subst (AgreesWith (cellAt query 0) calls a b) (sym (o .1)) (agrees query fine calls a b h ha hb);
+    }
+  where
+    o : (((j : ℕ) × (lookUpOf query catalogue out ≡ Found j)) ⊎ (lookUpOf query catalogue out ≡ Made))
+        × (servedIn (lookUpOf query catalogue out) query catalogue out ≡ recordOf query)
+    o = outcome query catalogue out fine made long

@@ -1,0 +1,133 @@
+-- The sequence after a list of calls holds the terms taken, and nothing else.
+-- Assumes nothing.
+use mathlib.Core.Path.{_≡_, refl, sym, ap, _∙_, subst}
+use mathlib.Core.List.{List, [], _∷_, _++_, append-assoc}
+use mathlib.Core.Logic.{⊎-elim}
+use mathlib.Core.Bool.{Bool, true, false}
+use Prim.Native.Nat.{ℕ, zero, suc, _+_, _-_, _≤_, _<_}
+use native.Mathlib.Nat.{not-suc-le-zero}
+use native.Mathlib.Omega.{arith}
+use lib.Dec.{ltb, leb, eqb}
+use lib.ListN.{length, getD, set, replicate, length-append, getD-replicate, List·getD-append}
+use lib.Seq.{set-at, getD-append-add, getD-append-seam}
+use borrow.Author.Tests.{lt-ltb, le-ltb, le-leb, lt-leb, eq-eqb, ne-eqb}
+use borrow.Author.Count.{below-more}
+use Rattle.lists.specs.Choice.{pick}
+use Rattle.lists.specs.Table.{at}
+use Rattle.lists.proofs.Search.{lt-or-le}
+use Rattle.sequence.specs.declared.Sequence.{Sequence}
+use Rattle.sequence.specs.declared.Outcome.the-variants.{Done}
+use Rattle.sequence.specs.Limits.{maxModulus, maxTerms}
+use Rattle.sequence.specs.Rules.{openOf, pushOf, faultOf, isSound, IsSound}
+use Rattle.sequence.proofs.Laws.{of-sound}
+use Rattle.guarantees.specs.Calls.{Call, push, register, profile, after, afterAll, takes, takenFrom, taken}
+
+-- the terms in an array of 128, zero past the last
+abbrev pub padded : List ℕ → List ℕ
+padded ts = ts ++ replicate (128 - length ts) 0
+
+-- the sequence that holds these terms
+abbrev pub holding : ℕ → List ℕ → Sequence
+holding m ts = record { modulus = m; count = length ts; terms = padded ts }
+
+-- at most 128 terms, each below m
+pub record Good (m : ℕ) (ts : List ℕ) : Type 0 where
+  pub size : length ts ≤ 128
+  pub below : (j : ℕ) → j < length ts → at ts j < m
+
+pub padded-at : (ts : List ℕ) (j : ℕ) → j < length ts → at (padded ts) j ≡ at ts j
+padded-at ts j h = List·getD-append ts (replicate (128 - length ts) 0) 0 j h
+
+module _ (m : ℕ) (least : 2 ≤ m) (most : m ≤ maxModulus) where
+  pub sound-for : (ts : List ℕ) → Good m ts → isSound (faultOf (holding m ts)) ≡ true
+  sound-for ts g =
+      ap isSound (of-sound (holding m ts)
+      (record {
+        least = least;
+        most = most;
+        count = g .size;
+        below = λ j h. subst (λ (z : ℕ). z < m) (sym (padded-at ts j h)) (g .below j h);
+        zeros = λ j h k.
+            let d : ℕ = j - length ts in
+            let e : length ts + d ≡ j = omega arith in
+            subst (λ (z : ℕ). at (padded ts) z ≡ 0) e (getD-append-add ts (replicate (128 - length ts) 0) d 0 ∙ getD-replicate (128 - length ts) d 0 0 (omega arith));
+      }))
+
+  -- one term more, in the array
+  stored : (ts : List ℕ) (t : ℕ) → length ts < 128 → set (padded ts) (length ts) t ≡ padded (ts ++ (t ∷ []))
+  stored ts t h =
+      let k : ℕ = 128 - length ts - 1 in
+      let e : 128 - length ts ≡ suc k = omega arith in
+      let l : length (ts ++ (t ∷ [])) ≡ length ts + 1 = length-append ts (t ∷ []) in
+      let d : 128 - length (ts ++ (t ∷ [])) ≡ k = omega arith in
+      ap (λ (z : ℕ). set (ts ++ replicate z 0) (length ts) t) e
+      ∙ set-at ts 0 (replicate k 0) t (length ts) refl
+      ∙ sym (append-assoc ts (t ∷ []) (replicate k 0))
+      ∙ ap (λ (z : ℕ). (ts ++ (t ∷ [])) ++ replicate z 0) (sym d)
+
+  more : (ts : List ℕ) (t : ℕ) → length ts < 128
+      → _≡_ {A = Sequence} (record { modulus = m; count = length ts + 1; terms = set (padded ts) (length ts) t }) (holding m (ts ++ (t ∷ [])))
+  more ts t h = λ i. record { modulus = m; count = sym (length-append ts (t ∷ [])) i; terms = stored ts t h i }
+
+  -- a push does to the sequence what it does to the terms
+  push-for : (ts : List ℕ) (t : ℕ) → Good m ts → pushOf (holding m ts) t .sequence ≡ holding m (takes m ts (push t))
+  unfolding pushOf
+  push-for ts t g =
+      ⊎-elim
+      (λ (h : length ts < 128). ⊎-elim
+      (λ (k : t < m). rw (sound-for ts g, ne-eqb (length ts) 128 (λ e. omega arith), lt-leb m t k, lt-ltb t m k, lt-ltb (length ts) 128 h) (more ts t h))
+      (λ (k : m ≤ t). rw (sound-for ts g, ne-eqb (length ts) 128 (λ e. omega arith), le-leb m t k, le-ltb t m k))
+      (lt-or-le t m))
+      (λ (h : 128 ≤ length ts). let e : length ts ≡ 128 = omega (arith, g .size) in ⊎-elim
+      (λ (k : t < m). rw (sound-for ts g, eq-eqb (length ts) 128 e, lt-ltb t m k, le-ltb (length ts) 128 h))
+      (λ (k : m ≤ t). rw (sound-for ts g, eq-eqb (length ts) 128 e, le-ltb t m k))
+      (lt-or-le t m))
+      (lt-or-le (length ts) 128)
+
+  good-none : Good m []
+  good-none = record { size = omega arith; below = λ j h. absurd (not-suc-le-zero h) }
+
+  good-more : (ts : List ℕ) (t : ℕ) → Good m ts → Good m (takes m ts (push t))
+  good-more ts t g =
+      ⊎-elim
+      (λ (k : t < m). ⊎-elim
+      (λ (h : length ts < 128). rw (lt-ltb t m k, lt-ltb (length ts) 128 h) (grown k h))
+      (λ (h : 128 ≤ length ts). rw (lt-ltb t m k, le-ltb (length ts) 128 h) g)
+      (lt-or-le (length ts) 128))
+      (λ (k : m ≤ t). rw (le-ltb t m k) g)
+      (lt-or-le t m)
+    where
+      grown : t < m → length ts < 128 → Good m (ts ++ (t ∷ []))
+      grown k h =
+          let l : length (ts ++ (t ∷ [])) ≡ length ts + 1 = length-append ts (t ∷ []) in
+          record {
+            size = omega arith;
+            below = λ j i. below-more _ (length ts)
+                (λ x y. subst (λ (z : ℕ). z < m) (sym (List·getD-append ts (t ∷ []) 0 x y)) (g .below x y))
+                (subst (λ (z : ℕ). z < m) (sym (getD-append-seam ts t [] 0)) k)
+                j (subst (λ (z : ℕ). j < z) l i);
+          }
+
+  after-from : (cs : List Call) (ts : List ℕ) → Good m ts → (afterAll (holding m ts) cs ≡ holding m (takenFrom m ts cs)) × Good m (takenFrom m ts cs)
+  unfolding afterAll takenFrom
+  after-from [] ts g = (refl, g)
+  after-from (push t ∷ cs) ts g =
+      let h = after-from cs (takes m ts (push t)) (good-more ts t g) in
+      (ap (λ (z : Sequence). afterAll z cs) (push-for ts t g) ∙ h .0, h .1)
+  after-from (register a b ∷ cs) ts g = after-from cs ts g
+  after-from (profile c ∷ cs) ts g = after-from cs ts g
+
+  pub opens : openOf m .outcome ≡ Done
+  unfolding openOf
+  opens = rw (le-ltb m 2 least, le-ltb maxModulus m most)
+
+  opened : openOf m .sequence ≡ holding m []
+  unfolding openOf
+  opened = rw (le-ltb m 2 least, le-ltb maxModulus m most)
+
+  -- the sequence after the whole list
+  pub state : (cs : List Call) → afterAll (openOf m .sequence) cs ≡ holding m (taken m cs)
+  state cs = ap (λ (z : Sequence). afterAll z cs) opened ∙ after-from cs [] good-none .0
+
+  pub good : (cs : List Call) → Good m (taken m cs)
+  good cs = after-from cs [] good-none .1

@@ -1,0 +1,42 @@
+-- A list of calls on one sequence: pushes, registers and profiles, in any order, with any terms and buffers.
+-- Assumes nothing.
+use mathlib.Core.Bool.{Bool, true, false}
+use mathlib.Core.List.{List, [], _∷_, _++_}
+use Prim.Native.Nat.{ℕ}
+use lib.Dec.{ltb}
+use lib.ListN.{length}
+use Rattle.lists.specs.Choice.{pick}
+use Rattle.sequence.specs.declared.Sequence.{Sequence}
+use Rattle.sequence.specs.Limits.{maxTerms}
+use Rattle.sequence.specs.Rules.{pushOf}
+
+-- a call with what it is handed beside the sequence: a term, or the lent buffers as they are
+pub data Call : Type 0 where
+  push : ℕ → Call
+  register : List ℕ → List ℕ → Call
+  profile : List ℕ → Call
+
+-- the sequence after a call: as the reply to a push returns it, and untouched by the others
+abbrev pub after : Sequence → Call → Sequence
+after s (push t) = pushOf s t .sequence
+after s (register a b) = s
+after s (profile cells) = s
+
+-- after a list of calls, each handed the sequence that the call before left
+unfoldable pub afterAll : Sequence → List Call → Sequence
+afterAll s [] = s
+afterAll s (c ∷ cs) = afterAll (after s c) cs
+
+-- The terms taken, from the calls alone: a term below m joins at the end while there are fewer than 128; nothing else changes them.
+abbrev pub takes : ℕ → List ℕ → Call → List ℕ
+takes m ts (push t) = pick (ltb t m) (pick (ltb (length ts) maxTerms) (ts ++ (t ∷ [])) ts) ts
+takes m ts (register a b) = ts
+takes m ts (profile cells) = ts
+
+unfoldable pub takenFrom : ℕ → List ℕ → List Call → List ℕ
+takenFrom m ts [] = ts
+takenFrom m ts (c ∷ cs) = takenFrom m (takes m ts c) cs
+
+-- they start as none
+abbrev pub taken : ℕ → List Call → List ℕ
+taken m cs = takenFrom m [] cs

@@ -1,0 +1,95 @@
+-- The claims about every list of calls, and about records made and served.
+-- Assumes nothing.
+use mathlib.Core.Path.{_≡_}
+use mathlib.Core.Logic.{_⊎_}
+use mathlib.Core.List.{List}
+use Prim.Native.Nat.{ℕ, zero, _+_, _%_, _≤_, _<_}
+use lib.ListN.{length, take, drop}
+use Rattle.lists.specs.Table.{at, tabulate}
+use Rattle.cells.specs.Cell.{cellAt, bytesOf}
+use Rattle.recurrence.specs.Polynomial.{Generates}
+use Rattle.recurrence.specs.Least.{Least}
+use Rattle.recurrence.specs.Register as T
+use Rattle.recurrence.specs.Register.{pairOf}
+use Rattle.sequence.specs.declared.Sequence.{Sequence}
+use Rattle.sequence.specs.declared.Outcome.{Outcome}
+use Rattle.sequence.specs.declared.Outcome.the-variants.{Done}
+use Rattle.sequence.specs.declared.Reported.{Reported}
+use Rattle.sequence.specs.declared.Reported.the-variants.{Length}
+use Rattle.sequence.specs.Limits.{maxModulus, maxTerms, aBytes, bBytes, profileBytes}
+use Rattle.sequence.specs.Rules.{openOf, sequenceOf, checkOf}
+use Rattle.sequence.specs.Report.{reportOf, aBuffer, bBuffer, written, profileOf, profileBuffer, filled}
+use Rattle.catalogue.specs.declared.LookedUp.{LookedUp}
+use Rattle.catalogue.specs.declared.LookedUp.the-variants.{Found, Made}
+use Rattle.catalogue.specs.Rules.{recordBytes, aPlace, bPlace, lengthCell, recordOf, synthesizeOf, recordAt, records, lookUpOf, servedIn}
+use Rattle.guarantees.specs.Calls.{Call, afterAll, taken}
+
+-- What the register and the profile reply and write, lent buffers a, b and cells, for a sequence that should hold the terms ts modulo m.
+pub record Shows (m : ℕ) (ts : List ℕ) (s : Sequence) (a b cells : List ℕ) : Type 0 where
+  -- neither is refused
+  pub reported : reportOf s a b ≡ Length (T.register m ts (length ts) .length)
+  pub profiled : profileOf s cells ≡ Done
+  -- the register written is the one that the steps, joined by remainders, give for the terms
+  pub a-cells : written (reportOf s a b) (aBuffer s) a ≡ bytesOf (tabulate (maxTerms + 1) (at (T.register m ts (length ts) .a)))
+  pub b-cells : written (reportOf s a b) (bBuffer s) b ≡ bytesOf (tabulate maxTerms (at (T.register m ts (length ts) .b)))
+  -- cell k of the profile is the least length for the first k terms, and zero past the last
+  pub least : (k : ℕ) → k ≤ length ts → Least m (at ts) k (cellAt (filled (profileOf s cells) (profileBuffer s) cells) k)
+  pub zeros : (k : ℕ) → length ts < k → k ≤ maxTerms → cellAt (filled (profileOf s cells) (profileBuffer s) cells) k ≡ zero
+  -- the register's length is the profile's last cell
+  pub last : T.register m ts (length ts) .length ≡ cellAt (filled (profileOf s cells) (profileBuffer s) cells) (length ts)
+  -- it starts with 1 and generates every term
+  pub one : cellAt (written (reportOf s a b) (aBuffer s) a) 0 ≡ 1
+  pub generates : Generates m ts (length ts) (pairOf (T.register m ts (length ts)))
+
+-- Demand 3: for every modulus within the limits opening is not refused, and after every list of calls the register and the profile
+-- show the terms taken.
+pub record EveryList (m : ℕ) : Type 0 where
+  pub opened : openOf m .outcome ≡ Done
+  pub shows :
+      (calls : List Call) (a b cells : List ℕ) → length a ≡ aBytes → length b ≡ bBytes → length cells ≡ profileBytes
+      → Shows m (taken m calls) (afterAll (openOf m .sequence) calls) a b cells
+
+unfoldable pub Demand3 : Type 0
+Demand3 = (m : ℕ) → 2 ≤ m → m ≤ maxModulus → EveryList m
+
+-- ---- records made and served
+
+-- a record that was made by this software: what a making that is not refused writes for some query
+pub record MadeRecord (entry : List ℕ) : Type 0 where
+  pub query : List ℕ
+  pub out : List ℕ
+  pub made : synthesizeOf query out ≡ Done
+  pub same : entry ≡ filled (synthesizeOf query out) (recordOf query) out
+
+-- a catalogue of such records, end to end; the empty one is such
+pub record MadeCatalogue (catalogue : List ℕ) : Type 0 where
+  pub whole : length catalogue % recordBytes ≡ zero
+  pub each : (i : ℕ) → i < records catalogue → MadeRecord (recordAt catalogue i)
+
+-- the terms of a query
+abbrev pub termsOf : List ℕ → List ℕ
+termsOf query = take (cellAt query 1) (sequenceOf query .terms)
+
+-- the length and the cells in a record are those that the register gives after the calls, lent buffers a and b
+pub record AgreesWith (m : ℕ) (calls : List Call) (a b entry : List ℕ) : Type 0 where
+  pub length-same : reportOf (afterAll (openOf m .sequence) calls) a b ≡ Length (cellAt entry lengthCell)
+  pub a-same :
+      written (reportOf (afterAll (openOf m .sequence) calls) a b) (aBuffer (afterAll (openOf m .sequence) calls)) a ≡ take aBytes (drop aPlace entry)
+  pub b-same :
+      written (reportOf (afterAll (openOf m .sequence) calls) a b) (bBuffer (afterAll (openOf m .sequence) calls)) b ≡ take bBytes (drop bPlace entry)
+
+-- For a query that meets no refusal of its own and a catalogue made by this software: making and serving are not refused, and the
+-- record made, the record served and the register after any calls that take the query's terms are the same.
+pub record Same (query catalogue out : List ℕ) : Type 0 where
+  pub made : synthesizeOf query out ≡ Done
+  pub served : ((i : ℕ) × (lookUpOf query catalogue out ≡ Found i)) ⊎ (lookUpOf query catalogue out ≡ Made)
+  pub record-made :
+      (calls : List Call) (a b : List ℕ) → taken (cellAt query 0) calls ≡ termsOf query → length a ≡ aBytes → length b ≡ bBytes
+      → AgreesWith (cellAt query 0) calls a b (filled (synthesizeOf query out) (recordOf query) out)
+  pub record-served :
+      (calls : List Call) (a b : List ℕ) → taken (cellAt query 0) calls ≡ termsOf query → length a ≡ aBytes → length b ≡ bBytes
+      → AgreesWith (cellAt query 0) calls a b (servedIn (lookUpOf query catalogue out) query catalogue out)
+
+unfoldable pub MadeServedReported : Type 0
+MadeServedReported =
+    (query catalogue out : List ℕ) → checkOf query ≡ Done → MadeCatalogue catalogue → length out ≡ recordBytes → Same query catalogue out

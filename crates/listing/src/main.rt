@@ -1,0 +1,93 @@
+// The listing: queries on standard input, a header and a line for each on standard output.
+use libc::STDIN_FILENO;
+use libc::STDOUT_FILENO;
+use sequence::Outcome;
+ghost use mathlib.Core.Path.{_≡_};
+ghost use Prim.Native.Nat.{_≤_};
+ghost use lib.ListN.{length};
+
+fn number(n: u32) {
+    io::print_decimal(STDOUT_FILENO, n as u64);
+}
+
+fn text(s: &[u8]) {
+    io::write_all(STDOUT_FILENO, s);
+}
+
+fn refused(n: u64) {
+    text(b"refused ");
+    io::print_decimal(STDOUT_FILENO, n);
+    text(b"\n");
+}
+
+// The order that the listing shows: the length of the register.
+fn order(entry: &[u8]) -> u32
+    requires { ⌜ length (now entry) ≡ 776 ⌝ }
+{
+    cells::cell(entry, 130)
+}
+
+// Coefficient a_i, behind a comma.
+fn another(entry: &[u8], i: usize)
+    requires { ⌜ (length (now entry) ≡ 776) × (i ≤ 128) ⌝ }
+{
+    text(b",");
+    number(cells::cell(entry, 131 + i));
+}
+
+// a_0 .. a_l.
+fn coefficients(entry: &[u8], l: u32)
+    requires { ⌜ length (now entry) ≡ 776 ⌝ }
+{
+    number(cells::cell(entry, 131));
+    let mut i: usize = 1;
+    while i < 129 {
+        if (l as usize) < i {
+            return;
+        }
+        another(entry, i);
+        i += 1;
+    }
+}
+
+fn line(entry: &[u8])
+    requires { ⌜ length (now entry) ≡ 776 ⌝ }
+{
+    number(cells::cell(entry, 0));
+    text(b" ");
+    number(cells::cell(entry, 1));
+    text(b" ");
+    let l = order(entry);
+    number(l);
+    text(b" ");
+    coefficients(entry, l);
+    text(b"\n");
+}
+
+fn one(query: &[u8]) {
+    let mut out = [0u8; 776];
+    let o = catalogue::synthesize(query, &mut out);
+    match o {
+        Outcome::Refused(r) => refused(sequence::number(r)),
+        Outcome::Done => line(&out),
+    }
+}
+
+// Reads one query; says whether to go on.
+fn next() -> bool {
+    let mut query = [0u8; 260];
+    let n = io::read_full(STDIN_FILENO, &mut query);
+    if n == 0 {
+        return false;
+    }
+    one(&query[..n]);
+    true
+}
+
+fn main() {
+    text(b"modulus count order register\n");
+    let mut turns = u64::MAX;
+    while turns > 0 && next() {
+        turns = turns - 1;
+    }
+}

@@ -1,0 +1,68 @@
+/* Diverthrone: shortest linear recurrences modulo m, proved. C interface.
+ *
+ * Words. A query is 260 bytes: modulus, count n, then 128 terms, each number in two bytes, low byte first, zero past the count.
+ * A register of length l is a_0 .. a_l with a_0 = 1 and b_0 .. b_(l-1); it generates the terms S when S * a and b agree modulo m in every
+ * coefficient 0 .. n-1, so that from place l on each term is minus the sum of a_i times the term i places back.
+ * Coefficients are lent as cells of two bytes: 129 cells (258 bytes) for a, 128 cells (256 bytes) for b, zero past the length.
+ * A record is 776 bytes: the query (0..259), the length (260), a (262..519), b (520..775). A catalogue is records end to end.
+ *
+ * Replies. Every function answers refusal + 256 * value; take them apart with diverthrone_refusal and diverthrone_value.
+ * On a refusal every lent buffer holds what it held.
+ *
+ *    refusal  meaning
+ *       0     none
+ *       1     the modulus is below 2 or above 4,095
+ *       2     the count of terms, or of cells to run, is above 128
+ *       3     one of the terms is not below the modulus
+ *       4     the query holds something other than zero past its count
+ *       5     a lent buffer has another length than stated, or the cells to run are an odd number of bytes
+ *       6     a candidate has a length above 128, a coefficient not below m, a nonzero one past its end, or a_0 other than 1
+ *      23     the catalogue's length is not a multiple of 776
+ *      24     the record found is malformed (as in 6) or does not pass the test against the query
+ *
+ * Where several apply the first of 5, 1, 2, 3, 4, 6, 23, 24 is given.
+ *
+ * What the caller must grant. Each pointer is not NULL and valid for its length (for length 0, any address that is not NULL).
+ * A written buffer overlaps no other buffer of the same call. Nothing else: any bytes, any lengths.
+ * There is no allocation, no global state and no I/O, so calls from several threads need no lock.
+ */
+#ifndef DIVERTHRONE_H
+#define DIVERTHRONE_H
+
+#include <stddef.h>
+#include <stdint.h>
+
+#ifdef __cplusplus
+extern "C" {
+#endif
+
+#define DIVERTHRONE_QUERY_BYTES 260
+#define DIVERTHRONE_A_BYTES 258
+#define DIVERTHRONE_B_BYTES 256
+#define DIVERTHRONE_RECORD_BYTES 776
+
+/* Makes the record of a query: its shortest register. Value 0. */
+uint64_t diverthrone_synthesize(const uint8_t *query, size_t query_len, uint8_t *record, size_t record_len);
+
+/* Looks a query up in a catalogue by all of its 260 bytes. The first record with this query goes out if its register passes the test;
+ * if there is none, a record is made. Value: 0 for a record made, 1 + its place for one found, counted from 0. */
+uint64_t diverthrone_look_up(const uint8_t *query, size_t query_len, const uint8_t *catalogue, size_t catalogue_len, uint8_t *record,
+                             size_t record_len);
+
+/* Tests a candidate register of this length against a query. Value: 0 for yes, 1 + the first place where the product and b differ for no. */
+uint64_t diverthrone_verify(const uint8_t *query, size_t query_len, const uint8_t *a, size_t a_len, const uint8_t *b, size_t b_len,
+                            uint32_t length);
+
+/* Runs a candidate register: fills the whole lent buffer of at most 128 cells with the terms that it generates. Value 0. */
+uint64_t diverthrone_generate(uint32_t modulus, const uint8_t *a, size_t a_len, const uint8_t *b, size_t b_len, uint32_t length,
+                              uint8_t *cells, size_t cells_len);
+
+static inline unsigned diverthrone_refusal(uint64_t reply) { return (unsigned)(reply % 256); }
+
+static inline uint64_t diverthrone_value(uint64_t reply) { return reply / 256; }
+
+#ifdef __cplusplus
+}
+#endif
+
+#endif

@@ -1,0 +1,261 @@
+/* The C interface from C: every refusal, every verdict, found and made, buffers of every wrong length, and that a refusal changes no byte.
+ * Expected values are the scope's cases; guard bytes stand around every buffer. */
+#include "diverthrone.h"
+
+#include <stdio.h>
+#include <string.h>
+
+enum { GUARD = 16, ROOM = 4096 };
+
+static int checks, failures;
+
+static void check(int ok, const char *what) {
+    checks++;
+    if (!ok) {
+        failures++;
+        printf("FAILED: %s\n", what);
+    }
+}
+
+/* A buffer between guard bytes; `start` is where it begins. */
+struct lent {
+    uint8_t bytes[GUARD + ROOM + GUARD];
+    uint8_t before[GUARD + ROOM + GUARD];
+    size_t len;
+};
+
+static uint8_t *start(struct lent *b) { return b->bytes + GUARD; }
+
+static void lend(struct lent *b, size_t len, uint8_t fill) {
+    memset(b->bytes, 0xA5, sizeof b->bytes);
+    memset(start(b), fill, len);
+    b->len = len;
+}
+
+static void keep(struct lent *b) { memcpy(b->before, b->bytes, sizeof b->bytes); }
+
+static int unchanged(const struct lent *b) { return memcmp(b->before, b->bytes, sizeof b->bytes) == 0; }
+
+static int guarded(const struct lent *b) {
+    for (size_t i = 0; i < sizeof b->bytes; i++)
+        if ((i < GUARD || i >= GUARD + b->len) && b->bytes[i] != 0xA5) return 0;
+    return 1;
+}
+
+static void put(uint8_t *s, size_t cell, unsigned v) {
+    s[2 * cell] = (uint8_t)(v % 256);
+    s[2 * cell + 1] = (uint8_t)(v / 256);
+}
+
+static unsigned get(const uint8_t *s, size_t cell) { return s[2 * cell] + 256u * s[2 * cell + 1]; }
+
+static void put_all(struct lent *b, size_t cells, const unsigned *v, size_t n) {
+    lend(b, 2 * cells, 0);
+    for (size_t i = 0; i < n; i++) put(start(b), i, v[i]);
+}
+
+static void make_query(struct lent *q, unsigned m, const unsigned *terms, unsigned n) {
+    lend(q, DIVERTHRONE_QUERY_BYTES, 0);
+    put(start(q), 0, m);
+    put(start(q), 1, n);
+    for (unsigned i = 0; i < n && i < 128; i++) put(start(q), 2 + i, terms[i]);
+}
+
+static uint64_t synthesize(struct lent *q, struct lent *r) {
+    keep(q), keep(r);
+    uint64_t reply = diverthrone_synthesize(start(q), q->len, start(r), r->len);
+    check(unchanged(q), "synthesize leaves the query");
+    check(guarded(r), "synthesize keeps to the record");
+    return reply;
+}
+
+static uint64_t look_up(struct lent *q, struct lent *c, struct lent *r) {
+    keep(q), keep(c), keep(r);
+    uint64_t reply = diverthrone_look_up(start(q), q->len, start(c), c->len, start(r), r->len);
+    check(unchanged(q) && unchanged(c), "look_up leaves the query and the catalogue");
+    check(guarded(r), "look_up keeps to the record");
+    return reply;
+}
+
+static uint64_t verify(struct lent *q, struct lent *a, struct lent *b, uint32_t l) {
+    keep(q), keep(a), keep(b);
+    uint64_t reply = diverthrone_verify(start(q), q->len, start(a), a->len, start(b), b->len, l);
+    check(unchanged(q) && unchanged(a) && unchanged(b), "verify leaves what it is lent");
+    return reply;
+}
+
+static uint64_t generate(uint32_t m, struct lent *a, struct lent *b, uint32_t l, struct lent *c) {
+    keep(a), keep(b), keep(c);
+    uint64_t reply = diverthrone_generate(m, start(a), a->len, start(b), b->len, l, start(c), c->len);
+    check(unchanged(a) && unchanged(b), "generate leaves the candidate");
+    check(guarded(c), "generate keeps to the cells");
+    return reply;
+}
+
+static const unsigned nine[] = {6, 3, 1, 5, 6};
+static struct lent q, r, c, a, b, cells;
+
+static void refused(uint64_t reply, unsigned number, const struct lent *out, const char *what) {
+    check(reply == number, what);
+    check(out == NULL || unchanged(out), what);
+}
+
+static void records(void) {
+    const unsigned fib[] = {1, 1, 2, 3, 5, 1}, want_a[] = {1, 4, 7, 1}, want_b[] = {6, 0, 1};
+    make_query(&q, 9, nine, 5);
+    lend(&r, DIVERTHRONE_RECORD_BYTES, 0x5A);
+    check(synthesize(&q, &r) == 0, "case 3 is made");
+    check(memcmp(start(&r), start(&q), 260) == 0, "the record starts with the query");
+    check(get(start(&r), 130) == 3, "case 3 has length 3");
+    for (size_t i = 0; i < 129; i++) check(get(start(&r), 131 + i) == (i < 4 ? want_a[i] : 0), "case 3: a");
+    for (size_t i = 0; i < 128; i++) check(get(start(&r), 260 + i) == (i < 3 ? want_b[i] : 0), "case 3: b");
+    make_query(&q, 2, NULL, 0);
+    check(synthesize(&q, &r) == 0 && get(start(&r), 130) == 0 && get(start(&r), 131) == 1, "case 1");
+    make_query(&q, 7, fib, 6);
+    check(synthesize(&q, &r) == 0 && get(start(&r), 130) == 2 && get(start(&r), 132) == 6, "case 9");
+}
+
+static void query_refusals(void) {
+    unsigned many[128];
+    for (size_t i = 0; i < 128; i++) many[i] = 4094;
+    lend(&r, DIVERTHRONE_RECORD_BYTES, 0x5A);
+    static const unsigned bad[] = {0, 1, 4096, 65535};
+    for (size_t i = 0; i < 4; i++) {
+        make_query(&q, bad[i], nine, 5);
+        refused(synthesize(&q, &r), 1, &r, "modulus outside the limits");
+    }
+    make_query(&q, 4095, many, 128);
+    check(synthesize(&q, &r) == 0, "128 terms modulo 4,095 are taken");
+    lend(&r, DIVERTHRONE_RECORD_BYTES, 0x5A);
+    put(start(&q), 1, 129);
+    refused(synthesize(&q, &r), 2, &r, "129 terms");
+    put(start(&q), 1, 65535);
+    refused(synthesize(&q, &r), 2, &r, "65,535 terms");
+    make_query(&q, 6, nine, 5);
+    refused(synthesize(&q, &r), 3, &r, "a term equal to the modulus");
+    make_query(&q, 9, nine, 5);
+    start(&q)[259] = 1;
+    refused(synthesize(&q, &r), 4, &r, "a byte past the count");
+    make_query(&q, 9, nine, 5);
+    static const size_t lens[] = {0, 1, 259, 261, 520};
+    for (size_t i = 0; i < 5; i++) {
+        q.len = lens[i];
+        refused(synthesize(&q, &r), 5, &r, "a query of another length");
+    }
+    q.len = 260;
+    static const size_t outs[] = {0, 775, 777};
+    for (size_t i = 0; i < 3; i++) {
+        lend(&r, outs[i], 0x5A);
+        refused(synthesize(&q, &r), 5, &r, "a record of another length");
+    }
+}
+
+/* A catalogue of three: 9 with other terms, case 3 modulo 27, case 3. */
+static void make_catalogue(void) {
+    static const unsigned other[] = {6, 3, 1, 5, 7};
+    struct lent one;
+    lend(&c, 3 * DIVERTHRONE_RECORD_BYTES, 0);
+    for (size_t i = 0; i < 3; i++) {
+        make_query(&q, i == 1 ? 27 : 9, i == 0 ? other : nine, 5);
+        lend(&one, DIVERTHRONE_RECORD_BYTES, 0);
+        check(synthesize(&q, &one) == 0, "a record for the catalogue");
+        memcpy(start(&c) + i * DIVERTHRONE_RECORD_BYTES, start(&one), DIVERTHRONE_RECORD_BYTES);
+    }
+}
+
+static void catalogues(void) {
+    make_catalogue();
+    make_query(&q, 9, nine, 5);
+    lend(&r, DIVERTHRONE_RECORD_BYTES, 0x5A);
+    uint64_t reply = look_up(&q, &c, &r);
+    check(diverthrone_refusal(reply) == 0 && diverthrone_value(reply) == 3, "found at place 2, not the entry modulo 27");
+    check(memcmp(start(&r), start(&c) + 2 * 776, 776) == 0, "the record found goes out");
+    make_query(&q, 11, nine, 5);
+    check(look_up(&q, &c, &r) == 0 && get(start(&r), 0) == 11, "not found, made");
+    c.len = 0;
+    make_query(&q, 9, nine, 5);
+    check(look_up(&q, &c, &r) == 0, "an empty catalogue");
+    c.len = 3 * 776;
+    lend(&r, DIVERTHRONE_RECORD_BYTES, 0x5A);
+    c.len = 775;
+    refused(look_up(&q, &c, &r), 23, &r, "a catalogue of 775 bytes");
+    make_query(&q, 1, nine, 0);
+    refused(look_up(&q, &c, &r), 1, &r, "1 comes before 23");
+    q.len = 259;
+    refused(look_up(&q, &c, &r), 5, &r, "5 comes before 1");
+    make_catalogue();
+    make_query(&q, 9, nine, 5);
+    put(start(&c) + 2 * 776, 131 + 3, 2);
+    refused(look_up(&q, &c, &r), 24, &r, "a record that fails its test");
+    put(start(&c) + 2 * 776, 131, 2);
+    refused(look_up(&q, &c, &r), 24, &r, "a record that is malformed");
+    lend(&r, 775, 0x5A);
+    refused(look_up(&q, &c, &r), 5, &r, "a record of another length");
+}
+
+static void verdicts(void) {
+    const unsigned good[] = {1, 4, 7, 1}, wrong[] = {1, 4, 7, 2}, start_cells[] = {6, 0, 1};
+    make_query(&q, 9, nine, 5);
+    put_all(&b, 128, start_cells, 3);
+    put_all(&a, 129, good, 4);
+    check(verify(&q, &a, &b, 3) == 0, "case 3's register passes");
+    check(verify(&q, &a, &b, 128) == 0, "a longer length than the degrees is well formed");
+    put_all(&a, 129, wrong, 4);
+    uint64_t reply = verify(&q, &a, &b, 3);
+    check(diverthrone_refusal(reply) == 0 && diverthrone_value(reply) == 4, "case 11: no, at place 3");
+    put_all(&a, 129, good, 4);
+    refused(verify(&q, &a, &b, 129), 6, NULL, "a length above 128");
+    refused(verify(&q, &a, &b, 2), 6, NULL, "a coefficient past the length");
+    put(start(&a), 0, 2);
+    refused(verify(&q, &a, &b, 3), 6, NULL, "a_0 is 2");
+    put(start(&a), 0, 1);
+    put(start(&a), 1, 9);
+    refused(verify(&q, &a, &b, 3), 6, NULL, "a coefficient not below m");
+    a.len = 256;
+    refused(verify(&q, &a, &b, 3), 5, NULL, "a of another length");
+    a.len = 258;
+    b.len = 0;
+    refused(verify(&q, &a, &b, 3), 5, NULL, "b of another length");
+    b.len = 256;
+    put(start(&q), 0, 4096);
+    refused(verify(&q, &a, &b, 3), 1, NULL, "1 comes before 6");
+    make_query(&q, 9, NULL, 0);
+    put_all(&a, 129, good, 4);
+    check(verify(&q, &a, &b, 3) == 0, "no terms: yes");
+}
+
+static void runs(void) {
+    const unsigned fib_a[] = {1, 6, 6}, fib_b[] = {1, 0}, want[] = {1, 1, 2, 3, 5, 1};
+    put_all(&a, 129, fib_a, 3);
+    put_all(&b, 128, fib_b, 2);
+    lend(&cells, 12, 0x5A);
+    check(generate(7, &a, &b, 2, &cells) == 0, "case 10 runs");
+    for (size_t i = 0; i < 6; i++) check(get(start(&cells), i) == want[i], "case 10: cells");
+    lend(&cells, 0, 0);
+    check(generate(7, &a, &b, 2, &cells) == 0, "no cells are legal");
+    lend(&cells, 256, 0x5A);
+    check(generate(7, &a, &b, 2, &cells) == 0 && get(start(&cells), 127) < 7, "128 cells");
+    lend(&cells, 258, 0x5A);
+    refused(generate(7, &a, &b, 2, &cells), 2, &cells, "129 cells");
+    refused(generate(1, &a, &b, 2, &cells), 1, &cells, "1 comes before 2");
+    lend(&cells, 257, 0x5A);
+    refused(generate(1, &a, &b, 2, &cells), 5, &cells, "an odd number of bytes comes before 1");
+    lend(&cells, 12, 0x5A);
+    refused(generate(4096, &a, &b, 2, &cells), 1, &cells, "modulus 4,096");
+    refused(generate(65543, &a, &b, 2, &cells), 1, &cells, "a modulus is not cut to 16 bits");
+    refused(generate(7, &a, &b, 1, &cells), 6, &cells, "a coefficient past the length");
+    refused(generate(7, &a, &b, 65538, &cells), 6, &cells, "a length is not cut to 16 bits");
+    refused(generate(6, &a, &b, 2, &cells), 6, &cells, "a coefficient equal to m");
+    a.len = 259;
+    refused(generate(7, &a, &b, 2, &cells), 5, &cells, "a of another length");
+}
+
+int main(void) {
+    records();
+    query_refusals();
+    catalogues();
+    verdicts();
+    runs();
+    printf("host test: %d checks, %d failed\n", checks, failures);
+    return failures != 0;
+}
