@@ -195,8 +195,15 @@ module _ (query : List ℕ) (fine : checkOf query ≡ Done) where
   pub record-passes : passes query (recordOf query) ≡ true
   unfolding passes recordOf verifyOf
   record-passes =
-      rw (layout-a query (sequenceOf query) size, layout-b query (sequenceOf query) size, layout-length-cell query (sequenceOf query) size small,
-      eq-eqb (length (aBuffer (sequenceOf query))) 258 (length-a (sequenceOf query)), eq-eqb (length (bBuffer (sequenceOf query))) 256 (length-b (sequenceOf query)), fine, judged)
+      rw (
+        layout-a query (sequenceOf query) size,
+        layout-b query (sequenceOf query) size,
+        layout-length-cell query (sequenceOf query) size small,
+        eq-eqb (length (aBuffer (sequenceOf query))) 258 (length-a (sequenceOf query)),
+        eq-eqb (length (bBuffer (sequenceOf query))) 256 (length-b (sequenceOf query)),
+        fine,
+        judged,
+      )
 
 record-query : (query : List ℕ) → length query ≡ queryBytes → take queryBytes (recordOf query) ≡ query
 unfolding recordOf

@@ -1,3 +1,5 @@
+-- `guarantees::drive` meets its contract.
+-- Assumes nothing.
 use borrow.Author.Needs.{needs}
 use mathlib.Core.Path.{_≡_, refl, sym, ap, _∙_}
 use Prim.Native.Nat.{ℕ, _-_}
@@ -8,12 +10,6 @@ use Rattle.sequence.specs.Rules.{openOf}
 use Rattle.guarantees.proofs.Driving.{Reached, reached-none, reached-more, reached-all, driven}
 use Rattle.guarantees.proofs.drive.Statement.{statement}
 use Rattle.guarantees.proofs.drive.Tie as tie
-use Rattle.guarantees.proofs.drive.Reads as reads
-use Rattle.guarantees.proofs.drive.Lts as lts
-use Rattle.guarantees.proofs.one.Reads as one-reads
-use Rattle.sequence.proofs.open.Reads as open-reads
-use Rattle.sequence.proofs.profile.Reads as profile-reads
-use Rattle.sequence.proofs.register.Reads as register-reads
 
 abbrev Inv-loop : tie.InvT-loop
 Inv-loop modulus codes a₀ b₀ cells₀ s₀ i₀ a b cells s i =
@@ -22,62 +18,48 @@ Inv-loop modulus codes a₀ b₀ cells₀ s₀ i₀ a b cells s i =
 abbrev μ-loop : tie.MeasureT-loop
 μ-loop modulus codes a₀ b₀ cells₀ s₀ i₀ a b cells s i = length codes - i
 
--- src/lib.rt:34:9
 open-requires : tie.Need-open-requires Inv-loop μ-loop
 open-requires c κs = search needs
 
--- src/lib.rt:37:5
 loop-holds : tie.Need-loop-holds Inv-loop μ-loop
 loop-holds c = (ap (λ (o : Opened). o .sequence) (c .before .«open» .ensures) ∙ reached-none _ (c .before .before .before .before .before .before .args .codes .now), refl, refl, refl)
 
--- src/lib.rt:38:20
 mul-one : tie.Need-mul-one Inv-loop μ-loop
 mul-one c = search needs
 
--- src/lib.rt:38:20
 shared-slice-read-one : tie.Need-shared-slice-read-one Inv-loop μ-loop
 shared-slice-read-one c = search needs
 
--- src/lib.rt:38:9
 one-requires : tie.Need-one-requires Inv-loop μ-loop
 one-requires c κs = search needs
 
--- src/lib.rt:39:9
 add-i : tie.Need-add-i Inv-loop μ-loop
 add-i c = search needs
 
--- src/lib.rt:37:5
 loop-less : tie.Need-loop-less Inv-loop μ-loop
 loop-less c = search needs
 
--- src/lib.rt:37:5
 loop-again : tie.Need-loop-again Inv-loop μ-loop
 loop-again c =
     let l = c .before .before .before .before .before .before .before .before .before .before .before .before .loop in
     let o = c .before .before .before .before .before .before .one .ensures in
     (reached-more _ _ (l .i) (l .s) _ (c .before .before .before .before .before .before .before .before .before .before .before .loop-test .taken) (l .inv .0) (o .0), o .1 .0 ∙ l .inv .1, o .1 .1 ∙ l .inv .2, o .1 .2 ∙ l .inv .3)
 
--- src/lib.rt:41:5
 register-requires : tie.Need-register-requires Inv-loop μ-loop
 register-requires c κs = search needs
 
--- src/lib.rt:42:5
 profile-requires : tie.Need-profile-requires Inv-loop μ-loop
 profile-requires c κs = search needs
 
--- src/lib.rt:31:1
 same-length : tie.Need-same-length Inv-loop μ-loop
 same-length c = search needs
 
--- src/lib.rt:31:1
 same-length-2 : tie.Need-same-length-2 Inv-loop μ-loop
 same-length-2 c = search needs
 
--- src/lib.rt:31:1
 same-length-3 : tie.Need-same-length-3 Inv-loop μ-loop
 same-length-3 c = search needs
 
--- src/lib.rt:31:1
 returns : tie.Need-returns Inv-loop μ-loop
 returns c least most ha hb hc =
     let l = c .before .before .before .before .before .before .before .before .before .before .before .before .loop in

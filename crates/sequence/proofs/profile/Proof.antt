@@ -1,3 +1,5 @@
+-- `sequence::profile` meets its contract.
+-- Assumes nothing.
 use borrow.Author.Needs.{needs}
 use mathlib.Core.Path.{_≡_, refl, sym, ap, _∙_}
 use native.Mathlib.Omega.{arith}
@@ -10,38 +12,26 @@ use Rattle.sequence.proofs.Laws.{sound-of}
 use Rattle.sequence.proofs.Report.{long-a, long-lengths}
 use Rattle.sequence.proofs.profile.Statement.{statement}
 use Rattle.sequence.proofs.profile.Tie as tie
-use Rattle.sequence.proofs.profile.Reads as reads
-use Rattle.sequence.proofs.profile.Lts as lts
-use Rattle.cells.proofs.write.Reads as write-reads
-use Rattle.sequence.proofs.is_sound.Reads as is-sound-reads
-use Rattle.sequence.proofs.solve.Reads as solve-reads
 
--- src/lib.rt:323:9
 returns : tie.Need-returns
 unfolding profileOf
 returns c = (rw (ne-eqb _ _ (c .if1 .taken)), refl)
 
--- src/lib.rt:325:8
 is-sound-requires : tie.Need-is-sound-requires
 is-sound-requires c κs = search needs
 
--- src/lib.rt:326:13
 solve-requires : tie.Need-solve-requires
 solve-requires c κs = sound-of _ (sym (c .before .is-sound .ensures) ∙ c .if2 .taken)
 
--- src/lib.rt:328:29
 slice-aggregate-write : tie.Need-slice-aggregate-write
 slice-aggregate-write c = search needs
 
--- src/lib.rt:328:9
 write-requires : tie.Need-write-requires
 write-requires c κs = omega (arith, long-a _ _ (c .before .before .before .solve .ensures), long-lengths _ _ (c .before .before .before .solve .ensures))
 
--- src/lib.rt:329:9
 same-length : tie.Need-same-length
 same-length c = search needs
 
--- src/lib.rt:329:9
 returns-2 : tie.Need-returns-2
 unfolding profileOf synthesisOf
 returns-2 c =
@@ -51,7 +41,6 @@ returns-2 c =
       c .before .before .write .ensures ∙ ap (λ (z : Synthesis). bytesOf (z .lengths)) (v .solve .ensures),
     )
 
--- src/lib.rt:318:1
 returns-3 : tie.Need-returns-3
 unfolding profileOf
 returns-3 c = (rw (eq-eqb _ _ (c .before .before .if1 .left), ← c .before .is-sound .ensures, c .if2 .left), refl)

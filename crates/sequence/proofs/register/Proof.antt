@@ -1,3 +1,5 @@
+-- `sequence::register` meets its contract.
+-- Assumes nothing.
 use borrow.Author.Needs.{needs}
 use mathlib.Core.Path.{_≡_, refl, sym, ap, _∙_}
 use native.Mathlib.Omega.{arith}
@@ -11,55 +13,39 @@ use Rattle.sequence.proofs.Laws.{sound-of}
 use Rattle.sequence.proofs.Report.{long-a, long-b}
 use Rattle.sequence.proofs.register.Statement.{statement}
 use Rattle.sequence.proofs.register.Tie as tie
-use Rattle.sequence.proofs.register.Reads as reads
-use Rattle.sequence.proofs.register.Lts as lts
-use Rattle.cells.proofs.write.Reads as write-reads
-use Rattle.sequence.proofs.is_sound.Reads as is-sound-reads
-use Rattle.sequence.proofs.solve.Reads as solve-reads
 
--- src/lib.rt:300:9
 returns : tie.Need-returns
 unfolding reportOf
 returns c = (rw (ne-eqb _ _ (c .if1 .taken)), (refl, refl))
 
--- src/lib.rt:303:9
 returns-2 : tie.Need-returns-2
 unfolding reportOf
 returns-2 c = (rw (eq-eqb _ _ (c .before .if1 .left), ne-eqb _ _ (c .if2 .taken)), (refl, refl))
 
--- src/lib.rt:305:8
 is-sound-requires : tie.Need-is-sound-requires
 is-sound-requires c κs = search needs
 
--- src/lib.rt:306:13
 solve-requires : tie.Need-solve-requires
 solve-requires c κs = sound-of _ (sym (c .before .is-sound .ensures) ∙ c .if3 .taken)
 
--- src/lib.rt:309:25
 slice-aggregate-write : tie.Need-slice-aggregate-write
 slice-aggregate-write c = search needs
 
--- src/lib.rt:309:9
 write-requires : tie.Need-write-requires
 write-requires c κs = omega (arith, long-a _ _ (c .before .before .before .before .solve .ensures))
 
--- src/lib.rt:310:25
 slice-aggregate-write-2 : tie.Need-slice-aggregate-write-2
 slice-aggregate-write-2 c = search needs
 
--- src/lib.rt:310:9
 write-requires-2 : tie.Need-write-requires-2
 write-requires-2 c κs = omega (arith, long-b _ _ (c .before .before .before .before .before .before .before .before .before .solve .ensures))
 
--- src/lib.rt:311:9
 same-length : tie.Need-same-length
 same-length c = search needs
 
--- src/lib.rt:311:9
 same-length-2 : tie.Need-same-length-2
 same-length-2 c = search needs
 
--- src/lib.rt:311:9
 returns-3 : tie.Need-returns-3
 unfolding reportOf synthesisOf
 returns-3 c =
@@ -72,7 +58,6 @@ returns-3 c =
       ),
     )
 
--- src/lib.rt:294:1
 returns-4 : tie.Need-returns-4
 unfolding reportOf
 returns-4 c =

@@ -1,3 +1,5 @@
+-- `sequence::write_register` meets its contract.
+-- Assumes nothing.
 use borrow.Author.Needs.{needs}
 use mathlib.Core.Path.{ap₂, _∙_}
 use mathlib.Core.List.{List, _++_}
@@ -10,55 +12,40 @@ use Rattle.cells.proofs.Laws.{length-bytesOf}
 use Rattle.sequence.proofs.Report.{two-parts}
 use Rattle.sequence.proofs.write_register.Statement.{statement}
 use Rattle.sequence.proofs.write_register.Tie as tie
-use Rattle.sequence.proofs.write_register.Reads as reads
-use Rattle.sequence.proofs.write_register.Lts as lts
-use Rattle.cells.proofs.write.Reads as write-reads
 
--- src/lib.rt:288:18
 sub-write : tie.Need-sub-write
 sub-write c = search needs
 
--- src/lib.rt:288:18
 part-write-start : tie.Need-part-write-start
 part-write-start c = search needs
 
--- src/lib.rt:288:18
 part-write-end : tie.Need-part-write-end
 part-write-end c = search needs
 
--- src/lib.rt:288:36
 slice-aggregate-write : tie.Need-slice-aggregate-write
 slice-aggregate-write c = search needs
 
--- src/lib.rt:288:5
 write-requires : tie.Need-write-requires
 write-requires c κs = search needs
 
--- src/lib.rt:289:18
 sub-write-2 : tie.Need-sub-write-2
 sub-write-2 c = search needs
 
--- src/lib.rt:289:18
 part-write-start-2 : tie.Need-part-write-start-2
 part-write-start-2 c = search needs
 
--- src/lib.rt:289:18
 part-write-end-2 : tie.Need-part-write-end-2
 part-write-end-2 c = search needs
 
--- src/lib.rt:289:38
 slice-aggregate-write-2 : tie.Need-slice-aggregate-write-2
 slice-aggregate-write-2 c = search needs
 
--- src/lib.rt:289:5
 write-requires-2 : tie.Need-write-requires-2
 write-requires-2 c κs = search needs
 
--- src/lib.rt:282:1
 same-length : tie.Need-same-length
 same-length c = search needs
 
--- src/lib.rt:282:1
 returns : tie.Need-returns
 returns c =
     let v = c .before .before .before .before .before .before .before .before .before .before .before .before .before in
