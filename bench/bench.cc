@@ -1,0 +1,167 @@
+// How fast the proved code is, as ratios to other programs in the same run: medians of interleaved batches of CPU time.
+// NTL and FLINT find the minimal polynomial of 128 terms modulo a prime; the C versions do all that the proved register does.
+#include <NTL/lzz_pX.h>
+#include <flint/flint.h>
+#include <flint/nmod_poly.h>
+
+#include <algorithm>
+#include <cstdint>
+#include <cstdio>
+#include <cstring>
+#include <ctime>
+#include <functional>
+#include <string>
+#include <vector>
+
+extern "C" {
+void timing_steps(const uint32_t *s, size_t n, uint32_t p, size_t e, uint32_t q, uint32_t *a, uint32_t *lens);
+void timing_register(uint32_t m, const uint32_t *s, size_t n, uint32_t *a, uint32_t *b, uint32_t *lens);
+void timing_record(const uint8_t *query, size_t query_len, uint8_t *record, size_t record_len);
+void timing_look_up(const uint8_t *query, size_t query_len, const uint8_t *catalogue, size_t catalogue_len, uint8_t *record, size_t record_len);
+void plain_register(uint32_t m, const uint32_t *s, int n, uint32_t *a, uint32_t *b, uint32_t *lens);
+void tricks_register(uint32_t m, const uint32_t *s, int n, uint32_t *a, uint32_t *b, uint32_t *lens);
+}
+
+static const int BATCH = 16;
+static uint32_t terms[BATCH][128];
+static uint8_t queries[BATCH][260];
+static uint32_t a[129], b[128], lens[129], a2[129], b2[128], lens2[129];
+static uint8_t record[776];
+
+static uint64_t state = 1;
+static uint32_t below(uint32_t m) {
+    state = state * 6364136223846793005u + 1442695040888963407u;
+    return (uint32_t)((state >> 33) % m);
+}
+
+static double now() {
+    timespec t;
+    clock_gettime(CLOCK_THREAD_CPUTIME_ID, &t);
+    return t.tv_sec + 1e-9 * t.tv_nsec;
+}
+
+struct Entry {
+    std::string name;
+    std::function<void(int)> run;
+};
+
+// Medians in microseconds for one call of each.
+static std::vector<double> measure(const std::vector<Entry> &entries, int rounds) {
+    std::vector<std::vector<double>> times(entries.size());
+    for (int r = 0; r < rounds; r++)
+        for (size_t i = 0; i < entries.size(); i++) {
+            double start = now();
+            for (int j = 0; j < BATCH; j++) entries[i].run(j);
+            times[i].push_back(1e6 * (now() - start) / BATCH);
+        }
+    std::vector<double> medians;
+    for (auto &t : times) {
+        std::sort(t.begin(), t.end());
+        medians.push_back(t[t.size() / 2]);
+    }
+    return medians;
+}
+
+static void prepare(uint32_t m, int n) {
+    for (int j = 0; j < BATCH; j++) {
+        memset(queries[j], 0, 260);
+        uint32_t cells[130] = {m, (uint32_t)n};
+        for (int i = 0; i < 128; i++) terms[j][i] = i < n ? below(m) : 0, cells[2 + i] = terms[j][i];
+        for (int i = 0; i < 130; i++) queries[j][2 * i] = cells[i] & 255, queries[j][2 * i + 1] = cells[i] >> 8;
+    }
+}
+
+static bool agree(uint32_t m, int n) {
+    for (int j = 0; j < BATCH; j++) {
+        timing_register(m, terms[j], n, a, b, lens);
+        plain_register(m, terms[j], n, a2, b2, lens2);
+        if (memcmp(a, a2, sizeof a) || memcmp(b, b2, sizeof b) || memcmp(lens, lens2, sizeof lens)) return false;
+        tricks_register(m, terms[j], n, a2, b2, lens2);
+        if (memcmp(a, a2, sizeof a) || memcmp(b, b2, sizeof b)) return false;
+    }
+    return true;
+}
+
+static std::vector<Entry> ours(uint32_t m, int n) {
+    return {{"register", [=](int j) { timing_register(m, terms[j], n, a, b, lens); }},
+            {"plain", [=](int j) { plain_register(m, terms[j], n, a, b, lens); }},
+            {"tricks", [=](int j) { tricks_register(m, terms[j], n, a, b, lens); }}};
+}
+
+static void primes() {
+    printf("prime moduli, 128 random terms: register / NTL, register / FLINT, record / register, register / steps without b, us for a register\n");
+    for (uint32_t p : {2u, 7u, 4093u}) {
+        prepare(p, 128);
+        if (!agree(p, 128)) printf("%u: DIFFER\n", p);
+        NTL::zz_p::init(p);
+        static NTL::vec_zz_p v[BATCH];
+        static mp_limb_t points[BATCH][128];
+        for (int j = 0; j < BATCH; j++) {
+            v[j].SetLength(128);
+            for (int i = 0; i < 128; i++) v[j][i] = (long)terms[j][i], points[j][i] = terms[j][i];
+        }
+        auto e = ours(p, 128);
+        e.push_back({"ntl", [](int j) { NTL::zz_pX h; NTL::MinPolySeq(h, v[j], 64); }});
+        e.push_back({"flint", [=](int j) {
+                         nmod_berlekamp_massey_t B;
+                         nmod_berlekamp_massey_init(B, p);
+                         nmod_berlekamp_massey_add_points(B, points[j], 128);
+                         nmod_berlekamp_massey_reduce(B);
+                         nmod_berlekamp_massey_clear(B);
+                     }});
+        e.push_back({"record", [](int j) { timing_record(queries[j], 260, record, 776); }});
+        e.push_back({"steps", [=](int j) { timing_steps(terms[j], 128, p, 1, p, a, lens); }});
+        auto t = measure(e, 101);
+        printf("%6u  %.2f  %.2f  %.2f  %.2f  %.1f\n", p, t[0] / t[3], t[0] / t[4], t[5] / t[0], t[0] / t[6], t[0]);
+    }
+}
+
+static void composites() {
+    printf("any moduli, 128 random terms: register / C with the same tricks, register / C with %%, us for a register\n");
+    for (uint32_t m : {2u, 7u, 4093u, 2048u, 2187u, 3125u, 4095u, 2310u}) {
+        prepare(m, 128);
+        if (!agree(m, 128)) printf("%u: DIFFER\n", m);
+        auto t = measure(ours(m, 128), 51);
+        printf("%6u  %.2f  %.2f  %.1f\n", m, t[0] / t[2], t[0] / t[1], t[0]);
+    }
+}
+
+static void growth() {
+    printf("growth with n modulo 4093 and 2048: us for a register of 16, 32, 64, 128 terms\n");
+    for (uint32_t m : {4093u, 2048u}) {
+        printf("%6u", m);
+        for (int n : {16, 32, 64, 128}) {
+            prepare(m, n);
+            printf("  %.1f", measure(ours(m, n), 51)[0]);
+        }
+        printf("\n");
+    }
+}
+
+static uint64_t by_memcmp(const uint8_t *query, const uint8_t *catalogue, size_t count) {
+    for (size_t i = 0; i < count; i++)
+        if (memcmp(query, catalogue + 776 * i, 260) == 0) return 1 + i;
+    return 0;
+}
+
+static void look_up() {
+    const size_t count = 20000;
+    static std::vector<uint8_t> catalogue(776 * count);
+    prepare(4093, 128);
+    for (size_t i = 0; i < count; i++) {
+        for (int j = 0; j < 128; j++) terms[0][j] = below(4093), queries[0][4 + 2 * j] = terms[0][j] & 255, queries[0][5 + 2 * j] = terms[0][j] >> 8;
+        timing_record(queries[0], 260, &catalogue[776 * i], 776);
+    }
+    volatile uint64_t sink = 0;
+    auto t = measure({{"look_up", [&](int) { timing_look_up(queries[0], 260, catalogue.data(), catalogue.size(), record, 776); }},
+                      {"memcmp", [&](int) { sink += by_memcmp(queries[0], catalogue.data(), count); memcpy(record, &catalogue[776 * (count - 1)], 776); }}},
+                     31);
+    printf("look_up of the last of %zu records with the same modulus and count: / C loop over memcmp, us\n        %.2f  %.1f\n", count, t[0] / t[1], t[0]);
+}
+
+int main() {
+    primes();
+    composites();
+    growth();
+    look_up();
+}

@@ -1,0 +1,13 @@
+#!/usr/bin/env bash
+# Builds and runs the benchmark. It needs NTL and FLINT, which it installs where they are missing (Debian).
+set -euo pipefail
+cd "$(dirname "$0")/.."
+work=$(mktemp -d)
+trap 'rm -rf "$work"' EXIT
+[ -e /usr/include/NTL/lzz_pX.h ] && [ -e /usr/include/flint/flint.h ] || { apt-get update -qq && apt-get install -y -qq libntl-dev libflint-dev libgmp-dev; }
+compiler=$(command -v clang || command -v gcc)
+rt staticlib timing
+"$compiler" -O3 -std=c11 -c bench/baseline.c -o "$work/plain.o"
+"$compiler" -O3 -std=c11 -DTRICKS -c bench/baseline.c -o "$work/tricks.o"
+g++ -O3 -std=c++17 -o "$work/bench" bench/bench.cc "$work/plain.o" "$work/tricks.o" target/staticlib/libtiming.a -lntl -lflint -lgmp -lpthread
+"$work/bench"
