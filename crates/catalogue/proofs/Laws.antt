@@ -8,14 +8,15 @@ use native.Mathlib.Nat.{lt-irrefl}
 use native.Mathlib.Omega.{arith}
 use lib.Dec.{ltb, eqb}
 use lib.ListN.{length, take, drop, length-drop, length-append, drop-of-length-le}
-use lib.Seq.{take-at, drop-at, take-take, length-take-le}
+use lib.Seq.{take-at, drop-at, take-take, length-take-le, getD-take}
 use borrow.Rule.Slice.PartMut.{putMid, postOf}
 use borrow.Author.Tests.{lt-ltb, le-ltb, ltb-true}
 use Rattle.lists.specs.Choice.{pick}
+use Rattle.lists.specs.Table.{at}
 use Rattle.lists.specs.Search.{first}
 use Rattle.lists.proofs.Search.{is-first}
 use Rattle.cells.specs.Cell.{putCell, bytesOf, equal}
-use Rattle.cells.proofs.Laws.{length-bytesOf}
+use Rattle.cells.proofs.Laws.{length-bytesOf, equal-ne}
 use Rattle.synthesis.specs.declared.Synthesis.{Synthesis}
 use Rattle.synthesis.specs.Synthesis.{synthesisOf}
 use Rattle.sequence.specs.declared.Sequence.{Sequence}
@@ -26,6 +27,7 @@ use Rattle.sequence.specs.Rules.{sequenceOf, checkOf}
 use Rattle.catalogue.specs.declared.Match.{Match}
 use Rattle.catalogue.specs.declared.Match.the-variants as M
 use Rattle.catalogue.specs.declared.LookedUp.the-variants as S
+use Rattle.catalogue.specs.Word.{wordOf}
 use Rattle.catalogue.specs.Rules.{layout, recordOf, recordAt, queryAt, records, firstMatch, matchOf, passes, serveOf, answerOf, orElse, lookUpOf}
 
 -- ---- filling a record
@@ -100,6 +102,28 @@ pub cut-query :
 cut-query query catalogue at =
     ap (λ (z : List ℕ). equal query (take 260 z)) (cut-record catalogue at)
     ∙ ap (equal query) (take-take 260 776 (drop at catalogue) (omega arith))
+
+-- records that differ in their first four terms differ
+pub word-tells : (query entry : List ℕ) (x y : ℕ) → x ≡ wordOf query → y ≡ wordOf entry → (x ≡ y → ⊥) → false ≡ equal query (take 260 entry)
+word-tells query entry x y hx hy differ =
+    sym (equal-ne query (take 260 entry) (λ e. differ (hx ∙ ap wordOf e ∙ cut ∙ sym hy)))
+  where
+    same : (i : ℕ) → i < 260 → at (take 260 entry) i ≡ at entry i
+    same i h = getD-take 260 entry i 0 h
+
+    cut : wordOf (take 260 entry) ≡ wordOf entry
+    cut =
+        omega (
+          arith,
+          same 4 (omega arith),
+          same 5 (omega arith),
+          same 6 (omega arith),
+          same 7 (omega arith),
+          same 8 (omega arith),
+          same 9 (omega arith),
+          same 10 (omega arith),
+          same 11 (omega arith),
+        )
 
 pub found :
     (query catalogue : List ℕ) (i : ℕ) → i < records catalogue → ((j : ℕ) → j < i → equal query (queryAt catalogue j) ≡ false) →
