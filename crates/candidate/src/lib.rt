@@ -150,10 +150,10 @@ fn judge(s: Sequence, a: &[u8], b: &[u8], l: u32) -> Verdict
 pub fn verify(query: &[u8], a: &[u8], b: &[u8], length: u32) -> Verdict
     ensures { λ r. ⌜ r ≡ verifyOf (now (query .entry)) (now (a .entry)) (now (b .entry)) length ⌝ }
 {
-    if a.len() != 258 {
+    if a.len() != sequence::A_BYTES {
         return Verdict::Refused(Refusal::Buffer);
     }
-    if b.len() != 256 {
+    if b.len() != sequence::B_BYTES {
         return Verdict::Refused(Refusal::Buffer);
     }
     let c = sequence::check(query);
@@ -207,10 +207,10 @@ pub fn generate(modulus: u32, a: &[u8], b: &[u8], length: u32, out: &mut [u8]) -
     ensures { λ r. ⌜ r ≡ generateOf modulus (now (a .entry)) (now (b .entry)) length (now (out .entry)) ⌝ }
     ensures { λ r. ⌜ now (out .exit) ≡ generatedIn r modulus (now (a .entry)) (now (b .entry)) length (now (out .entry)) ⌝ }
 {
-    if a.len() != 258 {
+    if a.len() != sequence::A_BYTES {
         return Outcome::Refused(Refusal::Buffer);
     }
-    if b.len() != 256 {
+    if b.len() != sequence::B_BYTES {
         return Outcome::Refused(Refusal::Buffer);
     }
     let odd = out.len() % 2;

@@ -11,7 +11,13 @@ ghost use Rattle.sequence.specs.Report.{filled};
 ghost use Rattle.catalogue.specs.Word.{wordOf};
 ghost use Rattle.catalogue.specs.Rules.{recordOf, synthesizeOf, records, firstMatch, matchOf, passes, serveOf, answerOf, lookUpOf, servedIn};
 
-// A record: the query, the length at 260, a at 262, b at 520.
+// A record: the query, the length, a and b begin at these bytes.
+const LENGTH_PLACE: usize = 260;
+
+const A_PLACE: usize = 262;
+
+const B_PLACE: usize = 520;
+
 pub const RECORD_BYTES: usize = 776;
 
 pub enum LookedUp {
@@ -33,9 +39,9 @@ fn write_record(query: &[u8], out: &mut [u8])
 {
     let s = sequence::load(query);
     let x = sequence::solve(s);
-    cells::copy(query, &mut out[0..260]);
-    cells::put(&mut out[260..262], 0, x.length);
-    sequence::write_register(x, &mut out[262..776]);
+    cells::copy(query, &mut out[0..LENGTH_PLACE]);
+    cells::put(&mut out[LENGTH_PLACE..A_PLACE], 0, x.length);
+    sequence::write_register(x, &mut out[A_PLACE..RECORD_BYTES]);
 }
 
 // Makes the record of a query.
@@ -94,7 +100,7 @@ fn find(query: &[u8], catalogue: &[u8]) -> Match
     let mut i: usize = 0;
     while i < n {
         let at = i * RECORD_BYTES;
-        if is_of(query, &catalogue[at..at + 776]) {
+        if is_of(query, &catalogue[at..at + RECORD_BYTES]) {
             return Match::At(i);
         }
         i += 1;
@@ -108,7 +114,12 @@ fn is_good(query: &[u8], entry: &[u8]) -> bool
     ensures { λ r. ⌜ r ≡ passes (now (query .entry)) (now (entry .entry)) ⌝ }
 {
     let l = cells::cell(entry, 130);
-    let v = candidate::verify(query, &entry[262..520], &entry[520..776], l);
+    let v = candidate::verify(
+        query,
+        &entry[A_PLACE..B_PLACE],
+        &entry[B_PLACE..RECORD_BYTES],
+        l,
+    );
     match v {
         Verdict::Yes => true,
         Verdict::No(_) => false,
@@ -123,7 +134,7 @@ fn serve(query: &[u8], catalogue: &[u8], out: &mut [u8], i: usize) -> LookedUp
     ensures { λ r. ⌜ now (out .exit) ≡ servedIn r (now (query .entry)) (now (catalogue .entry)) (now (out .entry)) ⌝ }
 {
     let at = i * RECORD_BYTES;
-    let entry = &catalogue[at..at + 776];
+    let entry = &catalogue[at..at + RECORD_BYTES];
     if is_good(query, entry) {
         cells::copy(entry, out);
         return LookedUp::Found(i);

@@ -1,4 +1,5 @@
-// A sequence of terms modulo m (the paper's reading): opening one, pushing a term, what is wrong with one, and the query that writes one down.
+// A sequence of terms modulo m (the paper's reading): opening one, pushing a term, its register and its profile; what is wrong with one,
+// and the query that writes one down.
 use synthesis::Synthesis;
 ghost use mathlib.Core.Path.{_≡_};
 ghost use Prim.Native.Nat.{_≤_, _<_};
@@ -9,9 +10,18 @@ ghost use Rattle.synthesis.specs.Synthesis.{synthesisOf};
 ghost use Rattle.sequence.specs.Report.{reportOf, written, aBuffer, bBuffer, profileOf, filled, profileBuffer};
 ghost use Rattle.sequence.specs.Rules.{number, IsSound, firstLarge, zeroFrom, faultOf, refusalOf, isSound, openOf, pushOf, sequenceOf, checkOf};
 
+// The limits, and the sizes of lent buffers in bytes.
 pub const MAX_MODULUS: u32 = 4095;
 
 pub const MAX_TERMS: u32 = 128;
+
+pub const QUERY_BYTES: usize = 260;
+
+pub const A_BYTES: usize = 258;
+
+pub const B_BYTES: usize = 256;
+
+pub const PROFILE_BYTES: usize = 258;
 
 // A reading: terms past the count are zero.
 pub struct Sequence {
@@ -243,7 +253,7 @@ pub fn load(query: &[u8]) -> Sequence
 pub fn check(query: &[u8]) -> Outcome
     ensures { λ r. ⌜ r ≡ checkOf (now (query .entry)) ⌝ }
 {
-    if query.len() != 260 {
+    if query.len() != QUERY_BYTES {
         return Outcome::Refused(Refusal::Buffer);
     }
     let s = load(query);
@@ -296,10 +306,10 @@ pub fn register(s: Sequence, a: &mut [u8], b: &mut [u8]) -> Reported
     ensures { λ r. ⌜ now (a .exit) ≡ written r (aBuffer s) (now (a .entry)) ⌝ }
     ensures { λ r. ⌜ now (b .exit) ≡ written r (bBuffer s) (now (b .entry)) ⌝ }
 {
-    if a.len() != 258 {
+    if a.len() != A_BYTES {
         return Reported::Refused(Refusal::Buffer);
     }
-    if b.len() != 256 {
+    if b.len() != B_BYTES {
         return Reported::Refused(Refusal::Buffer);
     }
     if is_sound(s) {
@@ -319,7 +329,7 @@ pub fn profile(s: Sequence, cells: &mut [u8]) -> Outcome
     ensures { λ r. ⌜ r ≡ profileOf s (now (cells .entry)) ⌝ }
     ensures { λ r. ⌜ now (cells .exit) ≡ filled r (profileBuffer s) (now (cells .entry)) ⌝ }
 {
-    if cells.len() != 258 {
+    if cells.len() != PROFILE_BYTES {
         return Outcome::Refused(Refusal::Buffer);
     }
     if is_sound(s) {
