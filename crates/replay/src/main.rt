@@ -1,0 +1,385 @@
+// Replays a script of calls: reads the calls from standard input, makes each through the library and writes a line of text for it.
+// reference/README.md has the format of the script and of the text; the second program says what the text has to be.
+use candidate::Verdict;
+use catalogue::LookedUp;
+use libc::STDIN_FILENO;
+use libc::STDOUT_FILENO;
+use sequence::Outcome;
+use sequence::Refusal;
+use sequence::Reported;
+use sequence::Sequence;
+
+// Where an FNV-1a hash of 32 bits starts.
+const START: u32 = 2166136261;
+
+// A call's header. The lengths x, y, z have two bytes, so a buffer of 65,536 bytes holds each.
+struct Call {
+    operation: u8,
+    fill: u8,
+    number: u32,
+    x: u16,
+    y: u16,
+    z: u16,
+    l: u16,
+}
+
+// The sequence held after a call, and whether the script goes on.
+struct Turn {
+    sequence: Sequence,
+    going: bool,
+}
+
+fn pair(low: u8, high: u8) -> u16 {
+    (low as u16) + 256 * (high as u16)
+}
+
+fn number(low: u16, high: u16) -> u32 {
+    (low as u32) + 65536 * (high as u32)
+}
+
+fn parse(h: &[u8; 16]) -> Call {
+    Call {
+        operation: h[0],
+        fill: h[1],
+        number: number(pair(h[4], h[5]), pair(h[6], h[7])),
+        x: pair(h[8], h[9]),
+        y: pair(h[10], h[11]),
+        z: pair(h[12], h[13]),
+        l: pair(h[14], h[15]),
+    }
+}
+
+// Fills buf from the script; says whether the script ends too early.
+fn is_cut(buf: &mut [u8]) -> bool {
+    let n = io::read_full(STDIN_FILENO, buf);
+    n < buf.len()
+}
+
+fn text(s: &[u8]) {
+    io::write_all(STDOUT_FILENO, s);
+}
+
+fn decimal(n: u64) {
+    io::print_decimal(STDOUT_FILENO, n);
+}
+
+fn refused(r: Refusal) {
+    text(b"refused ");
+    decimal(sequence::number(r));
+}
+
+fn outcome(o: Outcome) {
+    match o {
+        Outcome::Done => text(b"ok"),
+        Outcome::Refused(r) => refused(r),
+    }
+}
+
+// x times the factor of FNV, in 32 bits. The product is taken in 64, so that nothing wraps.
+fn scaled(x: u32) -> u32 {
+    ((x as u64) * 16777619 % 4294967296) as u32
+}
+
+// One byte more in an FNV-1a hash.
+fn mixed(h: u32, byte: u8) -> u32 {
+    scaled(h ^ (byte as u32))
+}
+
+// A cell's two bytes more. (A cell of a sequence is below 65,536.)
+fn mixed_cell(h: u32, v: u32) -> u32 {
+    let low = mixed(h, (v % 256) as u8);
+    mixed(low, (v / 256 % 256) as u8)
+}
+
+fn hash(s: &[u8]) -> u32 {
+    let mut h = START;
+    let mut i: usize = 0;
+    while i < s.len() {
+        h = mixed(h, s[i]);
+        i += 1;
+    }
+    h
+}
+
+// The hash of the 260 bytes that write a sequence down.
+fn hash_sequence(s: Sequence) -> u32 {
+    let mut h = mixed_cell(mixed_cell(START, s.modulus), s.count);
+    let terms = s.terms;
+    let mut i: usize = 0;
+    while i < 128 {
+        h = mixed_cell(h, terms[i]);
+        i += 1;
+    }
+    h
+}
+
+fn print_hash(h: u32) {
+    text(b" ");
+    io::print_hex(STDOUT_FILENO, h as u64, 8);
+}
+
+fn end_hash(h: u32) {
+    print_hash(h);
+    text(b"\n");
+}
+
+fn stopped(s: Sequence) -> Turn {
+    Turn {
+        sequence: s,
+        going: false,
+    }
+}
+
+// The turn after a call that leaves the sequence held as it is.
+fn kept(s: Sequence, whole: bool) -> Turn {
+    if whole {
+        return Turn {
+            sequence: s,
+            going: true,
+        };
+    }
+    text(b"script cut short\n");
+    stopped(s)
+}
+
+// Ends the line of a call that may replace the sequence held.
+fn held(s: Sequence) -> Turn {
+    end_hash(hash_sequence(s));
+    Turn {
+        sequence: s,
+        going: true,
+    }
+}
+
+fn open(modulus: u32) -> Turn {
+    let o = sequence::open(modulus);
+    text(b"open ");
+    let r = o.outcome;
+    outcome(r);
+    held(o.sequence)
+}
+
+fn push(s: Sequence, term: u32) -> Turn {
+    let p = sequence::push(s, term);
+    text(b"push ");
+    let r = p.outcome;
+    outcome(r);
+    held(p.sequence)
+}
+
+// Of each call with buffers, NAME lends them, and NAME_in makes the call in their parts of the stated lengths.
+fn register_in(s: Sequence, a: &mut [u8], b: &mut [u8]) {
+    let r = sequence::register(s, a, b);
+    text(b"register ");
+    match r {
+        Reported::Length(l) => {
+            text(b"length ");
+            decimal(l as u64);
+        }
+        Reported::Refused(r) => refused(r),
+    }
+    print_hash(hash(a));
+    end_hash(hash(b));
+}
+
+fn register(s: Sequence, c: Call) -> Turn {
+    let fill = c.fill;
+    let x = c.x as usize;
+    let y = c.y as usize;
+    let mut a = [fill; 65536];
+    let mut b = [fill; 65536];
+    register_in(s, &mut a[0..x], &mut b[0..y]);
+    kept(s, true)
+}
+
+fn profile_in(s: Sequence, cells: &mut [u8]) {
+    let o = sequence::profile(s, cells);
+    text(b"profile ");
+    outcome(o);
+    end_hash(hash(cells));
+}
+
+fn profile(s: Sequence, c: Call) -> Turn {
+    let fill = c.fill;
+    let x = c.x as usize;
+    let mut cells = [fill; 65536];
+    profile_in(s, &mut cells[0..x]);
+    kept(s, true)
+}
+
+// A call with a payload says whether the script has all of it.
+fn verify_in(query: &mut [u8], a: &mut [u8], b: &mut [u8], l: u32) -> bool {
+    if is_cut(query) {
+        return false;
+    }
+    if is_cut(a) {
+        return false;
+    }
+    if is_cut(b) {
+        return false;
+    }
+    let v = candidate::verify(query, a, b, l);
+    text(b"verify ");
+    match v {
+        Verdict::Yes => text(b"yes"),
+        Verdict::No(i) => {
+            text(b"no ");
+            decimal(i as u64);
+        }
+        Verdict::Refused(r) => refused(r),
+    }
+    text(b"\n");
+    true
+}
+
+fn verify(c: Call) -> bool {
+    let x = c.x as usize;
+    let y = c.y as usize;
+    let z = c.z as usize;
+    let mut query = [0u8; 65536];
+    let mut a = [0u8; 65536];
+    let mut b = [0u8; 65536];
+    verify_in(&mut query[0..x], &mut a[0..y], &mut b[0..z], c.number)
+}
+
+fn generate_in(c: Call, a: &mut [u8], b: &mut [u8], cells: &mut [u8]) -> bool {
+    if is_cut(a) {
+        return false;
+    }
+    if is_cut(b) {
+        return false;
+    }
+    let o = candidate::generate(c.number, a, b, c.l as u32, cells);
+    text(b"generate ");
+    outcome(o);
+    end_hash(hash(cells));
+    true
+}
+
+fn generate(c: Call) -> bool {
+    let fill = c.fill;
+    let x = c.x as usize;
+    let y = c.y as usize;
+    let z = c.z as usize;
+    let mut a = [0u8; 65536];
+    let mut b = [0u8; 65536];
+    let mut cells = [fill; 65536];
+    generate_in(c, &mut a[0..x], &mut b[0..y], &mut cells[0..z])
+}
+
+fn synthesize_in(query: &mut [u8], entry: &mut [u8]) -> bool {
+    if is_cut(query) {
+        return false;
+    }
+    let o = catalogue::synthesize(query, entry);
+    text(b"synthesize ");
+    outcome(o);
+    end_hash(hash(entry));
+    true
+}
+
+fn synthesize(c: Call) -> bool {
+    let fill = c.fill;
+    let x = c.x as usize;
+    let y = c.y as usize;
+    let mut query = [0u8; 65536];
+    let mut entry = [fill; 65536];
+    synthesize_in(&mut query[0..x], &mut entry[0..y])
+}
+
+fn look_up_in(query: &mut [u8], records: &mut [u8], entry: &mut [u8]) -> bool {
+    if is_cut(query) {
+        return false;
+    }
+    if is_cut(records) {
+        return false;
+    }
+    let u = catalogue::look_up(query, records, entry);
+    text(b"look_up ");
+    match u {
+        LookedUp::Found(i) => {
+            text(b"found ");
+            decimal(i as u64);
+        }
+        LookedUp::Made => text(b"made"),
+        LookedUp::Refused(r) => refused(r),
+    }
+    end_hash(hash(entry));
+    true
+}
+
+fn look_up(c: Call) -> bool {
+    let fill = c.fill;
+    let x = c.x as usize;
+    let y = c.y as usize;
+    let z = c.z as usize;
+    let mut query = [0u8; 65536];
+    let mut records = [0u8; 65536];
+    let mut entry = [fill; 65536];
+    look_up_in(&mut query[0..x], &mut records[0..y], &mut entry[0..z])
+}
+
+fn forge(s: Sequence, c: Call) -> Turn {
+    if c.x != 260 {
+        text(b"script bad forge\n");
+        return stopped(s);
+    }
+    let mut query = [0u8; 260];
+    if is_cut(&mut query) {
+        return kept(s, false);
+    }
+    text(b"forge ok");
+    held(sequence::load(&query))
+}
+
+fn unknown(s: Sequence, operation: u8) -> Turn {
+    text(b"script unknown ");
+    decimal(operation as u64);
+    text(b"\n");
+    stopped(s)
+}
+
+fn act(s: Sequence, c: Call) -> Turn {
+    let operation = c.operation;
+    match operation {
+        0 => open(c.number),
+        1 => push(s, c.number),
+        2 => register(s, c),
+        3 => profile(s, c),
+        4 => kept(s, verify(c)),
+        5 => kept(s, generate(c)),
+        6 => kept(s, synthesize(c)),
+        7 => kept(s, look_up(c)),
+        8 => forge(s, c),
+        _ => unknown(s, operation),
+    }
+}
+
+// Makes the next call of the script.
+fn next(s: Sequence) -> Turn {
+    let mut h = [0u8; 16];
+    let n = io::read_full(STDIN_FILENO, &mut h);
+    if n == 0 {
+        return stopped(s);
+    }
+    if n < 16 {
+        return kept(s, false);
+    }
+    act(s, parse(&h))
+}
+
+fn main() {
+    // Refused, so the sequence is the one of zeros.
+    let o = sequence::open(0);
+    let mut s = o.sequence;
+    let mut turns = u64::MAX;
+    while turns > 0 {
+        let t = next(s);
+        if t.going {
+            s = t.sequence;
+            turns = turns - 1;
+        } else {
+            return;
+        }
+    }
+}

@@ -1,0 +1,26 @@
+#!/usr/bin/env bash
+# Makes what the programs are run on, and what they have to write, again from the seeds, by the second program alone:
+# replay/stdin, replay/stdout, listing/stdin and listing/stdout below the folder OUTPUT.
+# Usage: expectations.sh REFERENCE OUTPUT, or expectations.sh REFERENCE --store, which overwrites the stored ones.
+# REFERENCE is the built second program (reference/build.sh).
+set -euo pipefail
+[ $# -eq 2 ] || { sed -n '2,5s/^# //p' "$0" >&2; exit 2; }
+reference=$1
+output=$2
+[ "$output" != --store ] || output=$(dirname "$0")/../crates
+mkdir -p "$output/replay" "$output/listing"
+
+# Lists of calls, candidates, catalogues: each operation and each refusal that it has.
+{
+    "$reference" calls 11 500
+    "$reference" candidates 12 1000
+    "$reference" catalogues 13 300
+} >"$output/replay/stdin"
+"$reference" replay <"$output/replay/stdin" >"$output/replay/stdout"
+
+# 2,400 queries, then a piece that is too short for one.
+{
+    "$reference" slips 21 2400
+    head -c 100 /dev/zero
+} >"$output/listing/stdin"
+"$reference" listing <"$output/listing/stdin" >"$output/listing/stdout"
