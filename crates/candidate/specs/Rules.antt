@@ -11,7 +11,6 @@ use Rattle.lists.specs.Search.{all}
 use Rattle.cells.specs.Cell.{cellsFrom, bytesOf}
 use Rattle.recurrence.specs.Running.{generated, firstDifference}
 use Rattle.sequence.specs.declared.Sequence.{Sequence}
-use Rattle.sequence.specs.declared.Refusal.{Refusal}
 use Rattle.sequence.specs.declared.Refusal.the-variants as R
 use Rattle.sequence.specs.declared.Outcome.{Outcome}
 use Rattle.sequence.specs.declared.Outcome.the-variants.{Done, Refused}

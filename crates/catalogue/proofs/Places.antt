@@ -1,11 +1,11 @@
 -- Where things stand in a record.
 -- Assumes nothing.
-use mathlib.Core.Path.{_≡_, refl, sym, ap, _∙_, subst}
+use mathlib.Core.Path.{_≡_, sym, ap, _∙_}
 use mathlib.Core.List.{List, [], _∷_, _++_, append-assoc}
-use Prim.Native.Nat.{ℕ, zero, _+_, _*_, _≤_, _<_}
+use Prim.Native.Nat.{ℕ, _+_, _*_, _<_}
 use native.Mathlib.Omega.{arith}
 use lib.ListN.{length, take, drop, length-append, List·getD-append}
-use lib.Seq.{take-at, drop-at, take-append-le, drop-drop, take-all, getD-append-add}
+use lib.Seq.{take-at, drop-at, drop-drop, take-all, getD-append-add}
 use Rattle.lists.specs.Table.{at, tabulate}
 use Rattle.lists.proofs.Table.{length-tabulate}
 use Rattle.cells.specs.Cell.{cellAt, bytesOf}

@@ -9,13 +9,12 @@ use Rattle.lists.specs.Choice.{pick}
 use Rattle.lists.specs.Search.{first}
 use Rattle.cells.specs.Cell.{cellAt, bytesOf, equal}
 use Rattle.sequence.specs.declared.Sequence.{Sequence}
-use Rattle.sequence.specs.declared.Refusal.{Refusal}
 use Rattle.sequence.specs.declared.Refusal.the-variants as R
 use Rattle.sequence.specs.declared.Outcome.{Outcome}
 use Rattle.sequence.specs.declared.Outcome.the-variants as O
 use Rattle.sequence.specs.Limits.{queryBytes, aBytes, bBytes}
 use Rattle.sequence.specs.Rules.{sequenceOf, checkOf}
-use Rattle.sequence.specs.Report.{registerOf, aBuffer, bBuffer, filled}
+use Rattle.sequence.specs.Report.{registerOf, aBuffer, bBuffer}
 use Rattle.candidate.specs.declared.Verdict.{Verdict}
 use Rattle.candidate.specs.declared.Verdict.the-variants as W
 use Rattle.candidate.specs.Rules.{verifyOf}

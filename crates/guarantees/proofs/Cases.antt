@@ -1,6 +1,6 @@
 -- The fourteen cases hold, by computation.
 -- Assumes nothing.
-use mathlib.Core.Path.{_≡_, refl}
+use mathlib.Core.Path.{refl}
 use Rattle.lists.specs.Table.{tabulate, largest}
 use Rattle.lists.specs.Search.{first, all, every}
 use Rattle.lists.specs.Sum.{sumTo}

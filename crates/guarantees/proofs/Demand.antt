@@ -1,11 +1,9 @@
 -- Demand 3, for every modulus and every list of calls.
 -- Assumes nothing.
-use mathlib.Core.Path.{_≡_, refl, sym, ap, _∙_, subst}
-use mathlib.Core.List.{List, []}
-use mathlib.Core.Bool.{true, false}
-use Prim.Native.Nat.{ℕ, zero, suc, _+_, _*_, _%_, _≤_, _<_}
+use mathlib.Core.Path.{_≡_, sym, ap, _∙_, subst}
+use mathlib.Core.List.{List}
+use Prim.Native.Nat.{ℕ, zero, _+_, _≤_, _<_}
 use native.Mathlib.Omega.{arith}
-use lib.Dec.{leb, eqb}
 use lib.ListN.{length}
 use borrow.Author.Tests.{eq-eqb, le-leb, lt-leb}
 use Rattle.lists.specs.Choice.{pick}
@@ -13,7 +11,6 @@ use Rattle.lists.specs.Table.{at, tabulate}
 use Rattle.lists.proofs.Table.{at-tabulate}
 use Rattle.cells.specs.Cell.{cellAt, bytesOf}
 use Rattle.cells.proofs.Laws.{cellAt-bytesOf}
-use Rattle.residue.specs.Congruence.{Cong}
 use Rattle.residue.proofs.Congruence.{of-eq}
 use Rattle.recurrence.specs.Least.{Least}
 use Rattle.recurrence.specs.Register as T
@@ -26,11 +23,10 @@ use Rattle.sequence.specs.declared.Outcome.the-variants.{Done}
 use Rattle.sequence.specs.declared.Reported.{Reported}
 use Rattle.sequence.specs.declared.Reported.the-variants.{Length}
 use Rattle.sequence.specs.Limits.{maxModulus, maxTerms, aBytes, bBytes, profileBytes}
-use Rattle.sequence.specs.Rules.{openOf}
 use Rattle.synthesis.specs.Synthesis.{lengthAt}
 use Rattle.sequence.specs.Report.{registerOf, aBuffer, bBuffer, profileBuffer, reportOf, written, profileOf, filled}
-use Rattle.guarantees.specs.Calls.{Call, afterAll, taken}
-use Rattle.guarantees.specs.Claims.{Shows, EveryList, Demand3}
+use Rattle.guarantees.specs.Calls.{taken}
+use Rattle.guarantees.specs.Claims.{Shows, Demand3}
 use Rattle.guarantees.proofs.State.{holding, padded, padded-at, Good, sound-for, opens, state, good}
 
 -- a cell that was written holds its number

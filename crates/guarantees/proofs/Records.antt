@@ -2,20 +2,19 @@
 -- Assumes nothing.
 use mathlib.Core.Path.{_≡_, refl, sym, ap, ap₂, _∙_, subst, fun-ext}
 use mathlib.Core.Logic.{_⊎_, inl, inr}
-use mathlib.Core.List.{List, [], _∷_, _++_}
+use mathlib.Core.List.{List, []}
 use mathlib.Core.Bool.{Bool, true, false}
-use Prim.Native.Nat.{ℕ, zero, suc, _+_, _*_, _-_, _/_, _%_, _≤_, _<_}
-use native.Mathlib.Nat.{mod-eq-of-lt, le-refl}
+use Prim.Native.Nat.{ℕ, _+_, _*_, _-_, _%_, _≤_, _<_}
+use native.Mathlib.Nat.{mod-eq-of-lt, le-refl, not-suc-le-zero}
 use native.Mathlib.Omega.{arith}
-use lib.Dec.{ltb, eqb}
-use lib.ListN.{length, take, drop, replicate, length-append, length-replicate, getD-replicate, List·getD-append}
+use lib.Dec.{eqb}
+use lib.ListN.{length, take, drop, replicate, length-append, length-replicate, getD-replicate}
 use lib.Seq.{ext-getD, length-take-le, getD-take, getD-append-add, take-take}
-use borrow.Author.Tests.{eq-eqb, lt-ltb, le-ltb, eqb-true}
+use borrow.Author.Tests.{eq-eqb, lt-ltb, le-ltb}
 use Rattle.lists.specs.Choice.{pick}
 use Rattle.lists.specs.Table.{at, tabulate}
-use Rattle.lists.specs.Search.{first}
-use Rattle.lists.proofs.Table.{length-tabulate, at-tabulate, at-tabulate-all, tabulate-eq}
-use Rattle.lists.proofs.Search.{first-passes, first-le, lt-or-le, false-true}
+use Rattle.lists.proofs.Table.{length-tabulate, at-tabulate-all, tabulate-eq}
+use Rattle.lists.proofs.Search.{first-passes, lt-or-le}
 use Rattle.cells.specs.Cell.{cellAt, cellsFrom, bytesOf, equal}
 use Rattle.cells.proofs.Laws.{equal-eq}
 use Rattle.recurrence.specs.Polynomial.{conv}
@@ -28,21 +27,19 @@ use Rattle.sequence.specs.declared.Outcome.{Outcome}
 use Rattle.sequence.specs.declared.Outcome.the-variants.{Done, Refused}
 use Rattle.sequence.specs.declared.Reported.{Reported}
 use Rattle.sequence.specs.declared.Reported.the-variants.{Length}
-use Rattle.sequence.specs.Limits.{maxModulus, maxTerms, queryBytes, aBytes, bBytes}
-use Rattle.sequence.specs.Rules.{openOf, sequenceOf, checkOf, faultOf, refusalOf, IsSound}
+use Rattle.sequence.specs.Limits.{maxModulus, queryBytes, aBytes, bBytes}
+use Rattle.sequence.specs.Rules.{openOf, sequenceOf, checkOf, IsSound}
 use Rattle.sequence.specs.Report.{registerOf, aBuffer, bBuffer, reportOf, written, filled}
 use Rattle.sequence.proofs.Laws.{check-done}
-use Rattle.candidate.specs.declared.Verdict.{Verdict}
 use Rattle.candidate.specs.declared.Verdict.the-variants as W
-use Rattle.candidate.specs.declared.Flaw.{Flaw}
-use Rattle.candidate.specs.Rules.{aCells, bCells, flawOf, isFine, verdictOf, judgeOf, verifyOf, orElse}
+use Rattle.candidate.specs.Rules.{aCells, bCells, judgeOf, verifyOf}
 use Rattle.candidate.proofs.Laws.{IsFine, of-fine, no-difference}
 use Rattle.catalogue.specs.declared.LookedUp.{LookedUp}
 use Rattle.catalogue.specs.declared.LookedUp.the-variants.{Found, Made}
-use Rattle.catalogue.specs.Rules.{recordBytes, aPlace, bPlace, lengthCell, layout, recordOf, synthesizeOf, recordAt, queryAt, records, firstMatch, matchOf, isYes, passes, serveOf, answerOf, lookUpOf, servedIn}
-use Rattle.catalogue.proofs.Places.{length-a, length-b, layout-length, layout-query, layout-a, layout-b, layout-length-cell}
+use Rattle.catalogue.specs.Rules.{recordBytes, recordOf, synthesizeOf, recordAt, queryAt, records, firstMatch, matchOf, passes, serveOf, answerOf, lookUpOf, servedIn}
+use Rattle.catalogue.proofs.Places.{length-a, length-b, layout-query, layout-a, layout-b, layout-length-cell}
 use Rattle.guarantees.specs.Calls.{Call, afterAll, taken}
-use Rattle.guarantees.specs.Claims.{MadeRecord, MadeCatalogue, termsOf, AgreesWith, Same, MadeServedReported}
+use Rattle.guarantees.specs.Claims.{MadeRecord, MadeCatalogue, termsOf, AgreesWith, MadeServedReported}
 use Rattle.guarantees.proofs.State.{holding, padded, padded-at, Good, state}
 use Rattle.guarantees.proofs.Demand.{cell-of, reported, same-register}
 
@@ -234,6 +231,10 @@ made-same query entry made h = is ∙ ap recordOf same
     same =
         sym (record-query (made .query) (check-done (made .query) (making-checked (made .query) (made .out) (made .made)) .0))
         ∙ ap (take 260) (sym is) ∙ h
+
+-- the empty catalogue is one that was made
+pub empty-made : MadeCatalogue []
+empty-made = record { whole = refl; each = λ i h. absurd (not-suc-le-zero h) }
 
 -- ---- serving
 

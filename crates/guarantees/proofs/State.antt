@@ -3,24 +3,22 @@
 use mathlib.Core.Path.{_≡_, refl, sym, ap, _∙_, subst}
 use mathlib.Core.List.{List, [], _∷_, _++_, append-assoc}
 use mathlib.Core.Logic.{⊎-elim}
-use mathlib.Core.Bool.{Bool, true, false}
-use Prim.Native.Nat.{ℕ, zero, suc, _+_, _-_, _≤_, _<_}
+use mathlib.Core.Bool.{true}
+use Prim.Native.Nat.{ℕ, suc, _+_, _-_, _≤_, _<_}
 use native.Mathlib.Nat.{not-suc-le-zero}
 use native.Mathlib.Omega.{arith}
-use lib.Dec.{ltb, leb, eqb}
-use lib.ListN.{length, getD, set, replicate, length-append, getD-replicate, List·getD-append}
+use lib.ListN.{length, set, replicate, length-append, getD-replicate, List·getD-append}
 use lib.Seq.{set-at, getD-append-add, getD-append-seam}
 use borrow.Author.Tests.{lt-ltb, le-ltb, le-leb, lt-leb, eq-eqb, ne-eqb}
 use borrow.Author.Count.{below-more}
-use Rattle.lists.specs.Choice.{pick}
 use Rattle.lists.specs.Table.{at}
 use Rattle.lists.proofs.Search.{lt-or-le}
 use Rattle.sequence.specs.declared.Sequence.{Sequence}
 use Rattle.sequence.specs.declared.Outcome.the-variants.{Done}
-use Rattle.sequence.specs.Limits.{maxModulus, maxTerms}
-use Rattle.sequence.specs.Rules.{openOf, pushOf, faultOf, isSound, IsSound}
+use Rattle.sequence.specs.Limits.{maxModulus}
+use Rattle.sequence.specs.Rules.{openOf, pushOf, faultOf, isSound}
 use Rattle.sequence.proofs.Laws.{of-sound}
-use Rattle.guarantees.specs.Calls.{Call, push, register, profile, after, afterAll, takes, takenFrom, taken}
+use Rattle.guarantees.specs.Calls.{Call, push, register, profile, afterAll, takes, takenFrom, taken}
 
 -- the terms in an array of 128, zero past the last
 abbrev pub padded : List ℕ → List ℕ

@@ -1,6 +1,5 @@
 -- A list of calls on one sequence: pushes, registers and profiles, in any order, with any terms and buffers.
 -- Assumes nothing.
-use mathlib.Core.Bool.{Bool, true, false}
 use mathlib.Core.List.{List, [], _∷_, _++_}
 use Prim.Native.Nat.{ℕ}
 use lib.Dec.{ltb}

@@ -12,14 +12,11 @@ use Rattle.recurrence.specs.Least.{Least}
 use Rattle.recurrence.specs.Register as T
 use Rattle.recurrence.specs.Register.{pairOf}
 use Rattle.sequence.specs.declared.Sequence.{Sequence}
-use Rattle.sequence.specs.declared.Outcome.{Outcome}
 use Rattle.sequence.specs.declared.Outcome.the-variants.{Done}
-use Rattle.sequence.specs.declared.Reported.{Reported}
 use Rattle.sequence.specs.declared.Reported.the-variants.{Length}
 use Rattle.sequence.specs.Limits.{maxModulus, maxTerms, aBytes, bBytes, profileBytes}
 use Rattle.sequence.specs.Rules.{openOf, sequenceOf, checkOf}
 use Rattle.sequence.specs.Report.{reportOf, aBuffer, bBuffer, written, profileOf, profileBuffer, filled}
-use Rattle.catalogue.specs.declared.LookedUp.{LookedUp}
 use Rattle.catalogue.specs.declared.LookedUp.the-variants.{Found, Made}
 use Rattle.catalogue.specs.Rules.{recordBytes, aPlace, bPlace, lengthCell, recordOf, synthesizeOf, recordAt, records, lookUpOf, servedIn}
 use Rattle.guarantees.specs.Calls.{Call, afterAll, taken}

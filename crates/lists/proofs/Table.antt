@@ -1,7 +1,7 @@
 -- Laws of lists made by a rule for their entries.
 -- Assumes nothing.
 use mathlib.Core.Path.{_≡_, refl, sym, ap, ap₂, _∙_, subst}
-use mathlib.Core.List.{List, [], _∷_}
+use mathlib.Core.List.{List, _∷_}
 use Prim.Native.Nat.{ℕ, zero, suc, _+_, _≤_, _<_}
 use native.Mathlib.Nat.{not-suc-le-zero, lt-irrefl, le-trans}
 use native.Mathlib.Decide.{ℕ-discrete, decLt}

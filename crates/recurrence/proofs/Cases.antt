@@ -1,12 +1,11 @@
 -- The definitions held against numbers of the papers, by computation: the worked example of Reeds and Sloane (Tables 1 and 2) and the scope's cases.
 -- Assumes nothing.
 use mathlib.Core.Path.{_≡_, refl}
-use mathlib.Core.Bool.{not}
 use mathlib.Core.List.{List, [], _∷_, map}
-use Prim.Native.Nat.{ℕ, zero, suc, _-_, _^_}
+use Prim.Native.Nat.{ℕ, suc, _-_}
 use lib.ListN.{length}
 use Rattle.lists.specs.Table.{at, tabulate, largest}
-use Rattle.lists.specs.Search.{first, all, every}
+use Rattle.lists.specs.Search.{first, every}
 use Rattle.lists.specs.Sum.{sumTo}
 use Rattle.residue.specs.Congruence.{neg}
 use Rattle.residue.specs.Units.{inverse}
@@ -14,7 +13,7 @@ use Rattle.residue.specs.Valuation.{valuation, cofactor}
 use Rattle.residue.specs.Factors.{leastDivisor, leastPower, powersUpTo, primePowers}
 use Rattle.residue.specs.Remainders.{joined}
 use Rattle.recurrence.specs.Polynomial.{conv, plus, times, up, top, degree, Pair, len}
-use Rattle.recurrence.specs.Steps.{row, discrepancy, Case, stays, added, cancelled, caseOf, partner, multiplier, change, remembered, older, noOlder, next, history, rowAt}
+use Rattle.recurrence.specs.Steps.{discrepancy, Case, stays, added, cancelled, caseOf, partner, multiplier, change, remembered, older, noOlder, next, history, rowAt}
 use Rattle.recurrence.specs.Register.{Register, part, parts, complexity, coefficient, register}
 use Rattle.recurrence.specs.Running.{cell, generated, firstDifference}
 

@@ -1,10 +1,9 @@
 -- The least length of a register is the least L of a pair with a(0) = 1: from a pair to coefficients and back.
 -- Assumes nothing.
 use mathlib.Core.Path.{_≡_, refl, sym, ap, _∙_, subst}
-use mathlib.Core.Logic.{_⊎_, inl, inr}
 use mathlib.Core.List.{List, [], _∷_}
 use Prim.Native.Nat.{ℕ, zero, suc, _+_, _*_, _-_, _%_, _≤_, _<_}
-use native.Mathlib.Nat.{le-refl, le-antisymm, mod-lt, suc-sub-suc}
+use native.Mathlib.Nat.{le-antisymm, mod-lt, suc-sub-suc}
 use native.Mathlib.Decide.{decLe, decLt}
 use native.Mathlib.Omega.{arith}
 use lib.ListN.{length}

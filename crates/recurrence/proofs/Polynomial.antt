@@ -2,13 +2,13 @@
 -- Assumes nothing.
 use mathlib.Core.Path.{_≡_, refl, sym, ap, ap₂, _∙_, fun-ext}
 use mathlib.Core.List.{List, [], _∷_}
-use Prim.Native.Nat.{ℕ, zero, suc, _+_, _*_, _-_, _%_, _≤_, _<_, max}
+use Prim.Native.Nat.{ℕ, zero, suc, _+_, _*_, _-_, _≤_, _<_, max}
 use native.Mathlib.Nat.{mod-lt, le-antisymm}
 use native.Mathlib.Omega.{arith}
 use Rattle.lists.specs.Table.{at}
 use Rattle.residue.specs.Congruence.{Cong}
-use Rattle.residue.proofs.Congruence.{rfl, of-eq, sy, tr, add, modulo, same-below}
-use Rattle.recurrence.specs.Polynomial.{conv, plus, times, up, top, degree, Pair, len}
+use Rattle.residue.proofs.Congruence.{rfl, of-eq, tr, add, modulo, same-below}
+use Rattle.recurrence.specs.Polynomial.{plus, times, up, top, degree, Pair, len}
 use Rattle.recurrence.proofs.Series.{shift, const}
 use Rattle.recurrence.proofs.Pairs.{Deg}
 

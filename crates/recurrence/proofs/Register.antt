@@ -1,9 +1,8 @@
 -- The joined register is right modulo every m: it starts with 1, generates every term, its L is its length, and that is the least length.
 -- Assumes nothing.
 use mathlib.Core.Path.{_≡_, refl, sym, ap, ap₂, _∙_, subst}
-use mathlib.Core.Logic.{_⊎_, inl, inr}
-use mathlib.Core.List.{List, [], _∷_, map}
-use Prim.Native.Nat.{ℕ, zero, suc, _+_, _*_, _-_, _%_, _^_, _≤_, _<_, max}
+use mathlib.Core.List.{List, _∷_, map}
+use Prim.Native.Nat.{ℕ, zero, suc, _-_, _%_, _^_, _≤_, _<_}
 use native.Mathlib.Nat.{le-antisymm, mod-eq-of-lt, pow-zero}
 use native.Mathlib.Omega.{arith}
 use lib.ListN.{length}
@@ -13,19 +12,19 @@ use Rattle.lists.proofs.Among.{Among, map-map, largest-most, largest-least}
 use Rattle.residue.specs.Congruence.{Cong}
 use Rattle.residue.specs.Units.{Prime}
 use Rattle.residue.specs.Factors.{PrimePower, value, primePowers}
-use Rattle.residue.specs.Remainders.{Remainder, joined}
+use Rattle.residue.specs.Remainders.{joined}
 use Rattle.residue.proofs.Congruence.{rfl, of-eq, sy, tr, same-below, cong-left, cong-right, q-pos}
 use Rattle.residue.proofs.Factors.{Factored, one, more, factored, among-prime, among-exponent, among-cong}
 use Rattle.residue.proofs.Remainders.{Leaves, rests, leaves-at, factored-joined, cong-factored}
-use Rattle.recurrence.specs.Polynomial.{conv, Pair, len, Generates}
+use Rattle.recurrence.specs.Polynomial.{Pair, len, Generates}
 use Rattle.recurrence.specs.Steps.{rowAt}
-use Rattle.recurrence.specs.Least.{Gives, Least}
+use Rattle.recurrence.specs.Least.{Least}
 use Rattle.recurrence.specs.Register.{Register, pairOf, Part, part, parts, complexity, coefficient, register}
-use Rattle.recurrence.proofs.Pairs.{Deg, Agree, conv-cong}
+use Rattle.recurrence.proofs.Pairs.{Deg, conv-cong}
 use Rattle.recurrence.proofs.Polynomial.{Reduced, len-deg, len-least}
-use Rattle.recurrence.proofs.Steps.{L-at, Alike, row-same}
-use Rattle.recurrence.proofs.Length.{least-of-pair, of-pair, coefficients}
-use Rattle.recurrence.proofs.Theorem.{shortest, least-length, reduced, length-le, lead, past-a, past-b}
+use Rattle.recurrence.proofs.Steps.{Alike, row-same}
+use Rattle.recurrence.proofs.Length.{least-of-pair}
+use Rattle.recurrence.proofs.Theorem.{shortest, reduced, length-le, lead, past-a, past-b}
 
 -- what is right of a register for the first n terms of S modulo m
 pub record Right (m : ℕ) (S : List ℕ) (n : ℕ) (x : Register) : Type 0 where

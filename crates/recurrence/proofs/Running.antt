@@ -1,22 +1,20 @@
 -- A candidate passes the test against some terms exactly when running it gives those terms; also for lengths above their number.
 -- Assumes nothing.
 use mathlib.Core.Path.{_≡_, refl, sym, ap, _∙_, subst}
-use mathlib.Core.Logic.{_⊎_, inl, inr}
 use mathlib.Core.Bool.{Bool, true, false, not}
 use mathlib.Core.List.{List, [], _∷_, _++_}
 use Prim.Native.Nat.{ℕ, zero, suc, _+_, _*_, _-_, _%_, _≤_, _<_, min}
 use native.Mathlib.Nat.{le-refl, mod-lt, mod-eq-of-lt, sub-zero}
-use native.Mathlib.Decide.{decLt, decLe, ℕ-discrete}
+use native.Mathlib.Decide.{decLt, decLe}
 use native.Mathlib.Omega.{arith}
 use lib.Dec.{eqb}
 use lib.ListN.{length}
-use borrow.Author.Tests.{eq-eqb, ne-eqb, eqb-true, eqb-false}
+use borrow.Author.Tests.{eq-eqb, eqb-true}
 use Rattle.lists.specs.Table.{at}
-use Rattle.lists.specs.Search.{first}
 use Rattle.lists.specs.Sum.{sumTo}
-use Rattle.lists.proofs.Search.{first-le, first-before, first-passes, none-first, is-first, false-true}
+use Rattle.lists.proofs.Search.{first-before, first-passes, none-first, false-true}
 use Rattle.lists.proofs.Sum.{sumTo-eq, sumTo-head, sumTo-cut}
-use Rattle.residue.specs.Congruence.{Cong, neg}
+use Rattle.residue.specs.Congruence.{neg}
 use Rattle.residue.proofs.Congruence.{rfl, of-eq, sy, tr, add, modulo, add-neg}
 use Rattle.recurrence.specs.Polynomial.{conv}
 use Rattle.recurrence.specs.Running.{cell, generated, firstDifference}

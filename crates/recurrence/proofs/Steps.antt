@@ -4,9 +4,9 @@
 use mathlib.Core.Path.{_≡_, refl, sym, ap, ap₂, _∙_, fun-ext}
 use mathlib.Core.Bool.{Bool, true, false}
 use mathlib.Core.List.{List, [], _∷_}
-use Prim.Native.Nat.{ℕ, zero, suc, _+_, _*_, _-_, _%_, _^_, _≤_, _<_}
+use Prim.Native.Nat.{ℕ, zero, suc, _-_, _^_, _≤_, _<_}
 use native.Mathlib.Omega.{arith}
-use lib.Dec.{leb, ltb}
+use lib.Dec.{ltb}
 use lib.ListN.{length, getD}
 use borrow.Author.Tests.{le-leb, lt-leb, lt-ltb, le-ltb}
 use Rattle.lists.specs.Table.{at, tabulate}
@@ -14,7 +14,7 @@ use Rattle.lists.proofs.Table.{getD-tabulate, tabulate-eq}
 use Rattle.residue.specs.Congruence.{Cong}
 use Rattle.residue.specs.Valuation.{valuation, cofactor}
 use Rattle.residue.proofs.Congruence.{rfl, add}
-use Rattle.recurrence.specs.Polynomial.{conv, plus, times, up, Pair, len}
+use Rattle.recurrence.specs.Polynomial.{plus, times, up, Pair, len}
 use Rattle.recurrence.specs.Steps.{Rows, row, discrepancy, Case, stays, added, cancelled, caseOf, Older, noOlder, History, partner, multiplier, change, remembered, older, next, history, rowAt}
 use Rattle.recurrence.proofs.Pairs.{conv-cong}
 

@@ -1,7 +1,7 @@
 -- Theorem 1 of Reeds and Sloane for the steps as they are defined: every row, after every step, is a shortest pair that generates
 -- the terms so far; the length of row 0 is the least length; and the law by which lengths grow.
 -- Assumes nothing.
-use mathlib.Core.Path.{_≡_, refl, sym, ap, ap₂, _∙_, subst}
+use mathlib.Core.Path.{_≡_, refl, sym, ap, _∙_, subst}
 use mathlib.Core.Logic.{_⊎_, inl, inr}
 use mathlib.Core.List.{List, [], _∷_}
 use Prim.Native.Nat.{ℕ, zero, suc, _+_, _*_, _-_, _%_, _^_, _≤_, _<_}
@@ -15,12 +15,12 @@ use Rattle.residue.specs.Units.{Prime, inverse}
 use Rattle.residue.specs.Valuation.{valuation, cofactor}
 use Rattle.residue.proofs.Congruence.{rfl, of-eq, sy, tr, add, mul, modulo, self, add-neg, same-below, q-pos, pow-lt}
 use Rattle.residue.proofs.Valuation.{valuation-le, cofactor-whole, cofactor-invertible, cofactor-inverse}
-use Rattle.recurrence.specs.Polynomial.{conv, plus, times, up, Pair, len}
+use Rattle.recurrence.specs.Polynomial.{conv, Pair, len}
 use Rattle.recurrence.specs.Least.{Least}
 use Rattle.recurrence.specs.Steps.{discrepancy, Older, multiplier, rowAt}
-use Rattle.recurrence.proofs.Series.{shift, const}
-use Rattle.recurrence.proofs.Pairs.{Deg, Agree}
-use Rattle.recurrence.proofs.Trace.{Trace, other, Step, stay, fresh, old, Steps, Best, shortest-rows, grows, flat-law}
+use Rattle.recurrence.proofs.Series.{shift}
+use Rattle.recurrence.proofs.Pairs.{Deg}
+use Rattle.recurrence.proofs.Trace.{Trace, Step, stay, fresh, old, Steps, Best, shortest-rows, grows, flat-law}
 use Rattle.recurrence.proofs.Polynomial.{Reduced, at-combine, at-add, at-single, reduced-plus, reduced-times, reduced-up, reduced-single, len-deg, len-least}
 use Rattle.recurrence.proofs.Steps.{d-at, u-at, θ-at, g-at, L-at, olderAt, row-start, next-stays, next-added, next-cancelled, older-kept, older-grown, entry}
 use Rattle.recurrence.proofs.Length.{least-of-pair}

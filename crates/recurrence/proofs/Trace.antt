@@ -4,15 +4,15 @@
 use mathlib.Core.Path.{_≡_, refl, sym, ap, _∙_, subst}
 use mathlib.Core.Logic.{_⊎_, inl, inr}
 use Prim.Native.Nat.{ℕ, zero, suc, _+_, _*_, _-_, _^_, _≤_, _<_}
-use native.Mathlib.Nat.{le-refl, le-of-lt, le-of-suc-le-suc, zero-lt-suc, eq-or-lt-of-le}
+use native.Mathlib.Nat.{le-refl, le-of-lt, le-of-suc-le-suc, eq-or-lt-of-le}
 use native.Mathlib.Decide.{decLe, decLt}
 use native.Mathlib.Omega.{arith}
 use lib.Pow.{pow-add}
 use Rattle.recurrence.specs.Polynomial.{conv}
-use Rattle.recurrence.proofs.Series.{tail, shift, const, conv-swap, conv-add-r, conv-mul-r, conv-shift-r, shift-below, shift-from}
+use Rattle.recurrence.proofs.Series.{shift, const, conv-add-r, conv-mul-r, conv-shift-r, shift-below, shift-from}
 use Rattle.residue.specs.Congruence.{Cong}
 use Rattle.residue.proofs.Congruence.{rfl, of-eq, sy, tr, add, mul, zero-l, zero-r, zero-add-zero, pow-zero-of-le, pow-not-zero, Invertible, unit-cancel}
-use Rattle.recurrence.proofs.Pairs.{Vanish, Deg, Agree, conv-cong, cross-short}
+use Rattle.recurrence.proofs.Pairs.{Deg, Agree, conv-cong, cross-short}
 
 abbrev pub Same : ℕ → (ℕ → ℕ) → (ℕ → ℕ) → Type 0
 Same q f g = (i : ℕ) → Cong q (f i) (g i)

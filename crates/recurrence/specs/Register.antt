@@ -4,7 +4,7 @@ use mathlib.Core.List.{List, map}
 use Prim.Native.Nat.{ℕ, zero, suc}
 use Rattle.lists.specs.Table.{at, tabulate, largest}
 use Rattle.residue.specs.Factors.{PrimePower, value, primePowers}
-use Rattle.residue.specs.Remainders.{Remainder, joined}
+use Rattle.residue.specs.Remainders.{joined}
 use Rattle.recurrence.specs.Polynomial.{Pair, len}
 use Rattle.recurrence.specs.Steps.{rowAt}
 

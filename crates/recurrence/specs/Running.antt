@@ -1,6 +1,6 @@
 -- Running a register, and testing one against terms. A candidate is a length l with coefficients a and b.
 -- Assumes nothing.
-use mathlib.Core.Bool.{Bool, not}
+use mathlib.Core.Bool.{not}
 use mathlib.Core.List.{List, [], _∷_, _++_}
 use Prim.Native.Nat.{ℕ, zero, suc, _+_, _*_, _-_, _%_, min}
 use lib.Dec.{eqb}

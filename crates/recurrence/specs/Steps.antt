@@ -1,6 +1,6 @@
 -- The steps at a prime power p^e (Reeds and Sloane, section 4) by their full history. Letters are the paper's.
 -- Assumes nothing.
-use mathlib.Core.Bool.{Bool, true, false}
+use mathlib.Core.Bool.{true, false}
 use mathlib.Core.List.{List, [], _∷_}
 use Prim.Native.Nat.{ℕ, zero, suc, _+_, _*_, _-_, _%_, _^_}
 use lib.Dec.{leb, ltb}

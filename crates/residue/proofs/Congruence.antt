@@ -1,10 +1,9 @@
 -- Laws of congruence. Chains are written with `tr`, `add`, `mul`; nothing is subtracted: `neg q c` stands for minus c.
 -- Assumes nothing.
 use mathlib.Core.Path.{_≡_, refl, sym, ap, ap₂, _∙_}
-use mathlib.Core.Logic.{_⊎_, inl, inr}
 use Prim.Native.Nat.{ℕ, zero, suc, _+_, _*_, _-_, _/_, _%_, _^_, _≤_, _<_, _∣_}
 use native.Mathlib.Nat.{mod-add-div', add-mul-mod-self-right, add-mod, add-mod-right, mod-mod, mod-eq-sub-mod, mod-eq-of-lt, mod-lt, zero-mod, mod-self, mul-mod-left}
-use native.Mathlib.Nat.{mod-mod-of-dvd, dvd-of-mod-eq-zero, dvd-mul-right, dvd-mul-left, mul-comm, mul-assoc, add-mul, mul-one, one-mul, one-le-pow, pow-suc, pow-le-pow-right, mul-lt-mul-of-pos-left, lt-of-lt-of-le, add-sub-of-le}
+use native.Mathlib.Nat.{mod-mod-of-dvd, dvd-of-mod-eq-zero, dvd-mul-right, dvd-mul-left, mul-comm, one-le-pow, pow-suc, pow-le-pow-right, mul-lt-mul-of-pos-left, lt-of-lt-of-le}
 use native.Mathlib.Omega.{arith}
 use lib.Pow.{pow-add}
 use Rattle.residue.specs.Congruence.{Cong, neg}

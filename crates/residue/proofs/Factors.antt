@@ -4,8 +4,8 @@ use mathlib.Core.Path.{_≡_, refl, sym, ap, ap₂, _∙_, subst}
 use mathlib.Core.Logic.{_⊎_, inl, inr, _≢_}
 use mathlib.Core.Bool.{Bool, true, false}
 use mathlib.Core.List.{List, [], _∷_}
-use Prim.Native.Nat.{ℕ, zero, suc, _+_, _*_, _-_, _/_, _%_, _^_, _≤_, _<_}
-use native.Mathlib.Nat.{le-refl, mod-lt, mod-self, mod-mod-of-dvd, dvd-of-mod-eq-zero, zero-mod, pow-suc, pow-zero, div-one, mul-comm, mul-le-mul-left, mul-le-mul-right, mul-mod-left, pos-of-ne-zero, one-le-pow, one-mul}
+use Prim.Native.Nat.{ℕ, zero, suc, _*_, _-_, _/_, _%_, _^_, _≤_, _<_}
+use native.Mathlib.Nat.{le-refl, mod-self, mod-mod-of-dvd, dvd-of-mod-eq-zero, zero-mod, pow-suc, pow-zero, div-one, mul-comm, mul-le-mul-left, mul-le-mul-right, mul-mod-left, pos-of-ne-zero}
 use native.Mathlib.Decide.{ℕ-discrete}
 use native.Mathlib.Omega.{arith}
 use lib.Dec.{leb, eqb}
@@ -13,9 +13,9 @@ use borrow.Author.Tests.{eq-eqb, eqb-true, le-leb, lt-leb, leb-true, leb-false}
 use Rattle.lists.specs.Choice.{both}
 use Rattle.lists.specs.Search.{first}
 use Rattle.lists.proofs.Among.{Among, here, there}
-use Rattle.lists.proofs.Search.{both-left, both-right, both-true, first-le, first-passes, first-before, first-found, lt-or-le, false-true}
+use Rattle.lists.proofs.Search.{both-left, both-right, both-true, first-le, first-passes, first-before, lt-or-le, false-true}
 use Rattle.residue.specs.Congruence.{Cong}
-use Rattle.residue.specs.Units.{Prime, Coprime}
+use Rattle.residue.specs.Units.{Prime}
 use Rattle.residue.specs.Valuation.{valuation, cofactor}
 use Rattle.residue.specs.Factors.{leastDivisor, PrimePower, value, leastPower, powersUpTo, primePowers}
 use Rattle.residue.proofs.Congruence.{pow-lt, cong-left, cong-right}

@@ -2,9 +2,9 @@
 -- Assumes nothing.
 use mathlib.Core.Path.{_≡_, refl, sym, ap, _∙_, subst}
 use mathlib.Core.Logic.{_≢_}
-use mathlib.Core.Bool.{Bool, true, false}
+use mathlib.Core.Bool.{Bool, true}
 use mathlib.Core.List.{List, [], _∷_, map}
-use Prim.Native.Nat.{ℕ, zero, suc, _+_, _*_, _-_, _/_, _%_, _^_, _≤_, _<_}
+use Prim.Native.Nat.{ℕ, zero, _+_, _*_, _-_, _/_, _%_, _≤_, _<_}
 use native.Mathlib.Nat.{le-refl, mod-lt, mod-mod, mod-eq-of-lt, mod-one, zero-mod, div-add-mod', mul-le-mul-right}
 use native.Mathlib.Decide.{decLe}
 use native.Mathlib.Omega.{arith}
@@ -13,13 +13,13 @@ use lib.Arith.{digits-lt}
 use borrow.Author.Tests.{eq-eqb, eqb-true}
 use Rattle.lists.specs.Search.{first, every}
 use Rattle.lists.proofs.Among.{Among, here, there}
-use Rattle.lists.proofs.Search.{first-found, first-only, every-cons, every-head, every-tail}
+use Rattle.lists.proofs.Search.{first-found, every-cons, every-head, every-tail}
 use Rattle.residue.specs.Congruence.{Cong, neg}
 use Rattle.residue.specs.Units.{Prime, Coprime, inverse}
 use Rattle.residue.specs.Factors.{PrimePower, value}
 use Rattle.residue.specs.Remainders.{Remainder, joined, two}
 use Rattle.residue.proofs.Congruence.{rfl, of-eq, sy, tr, add, mul, modulo, multiple, self, zero-l, same-below, add-neg, cancel, cong-left, cong-right, Invertible, unit-cancel, q-pos}
-use Rattle.residue.proofs.Units.{inverse-inverts, inverse-lt, prime-invertible, prime-power-coprime, coprime-invertible}
+use Rattle.residue.proofs.Units.{inverse-inverts, inverse-lt, prime-power-coprime, coprime-invertible}
 use Rattle.residue.proofs.Factors.{Factored, one, more}
 
 -- ---- two moduli, the first a unit modulo the second

@@ -2,17 +2,17 @@
 -- Assumes nothing.
 use mathlib.Core.Path.{_≡_, refl, sym, ap, _∙_, subst}
 use mathlib.Core.Logic.{_⊎_, inl, inr, _≢_}
-use mathlib.Core.Bool.{Bool, true, false}
+use mathlib.Core.Bool.{true}
 use Prim.Native.Nat.{ℕ, zero, suc, _+_, _*_, _-_, _/_, _%_, _^_, _≤_, _<_, _∣_}
-use native.Mathlib.Nat.{mod-lt, mod-zero, mod-eq-of-lt, mod-self, mod-one, zero-mod, mod-mod, mod-mod-of-dvd, dvd-of-mod-eq-zero, mod-eq-zero-of-dvd, dvd-mul-right-of-dvd, le-of-dvd, div-add-mod', eq-zero-or-pos, le-refl, mul-le-mul-left, mul-le-mul-right, pow-suc, pow-zero, one-le-pow, pos-of-ne-zero, mul-assoc, mul-comm, one-mul}
+use native.Mathlib.Nat.{mod-lt, mod-zero, mod-eq-of-lt, mod-self, zero-mod, mod-mod-of-dvd, dvd-of-mod-eq-zero, mod-eq-zero-of-dvd, dvd-mul-right-of-dvd, le-of-dvd, div-add-mod', eq-zero-or-pos, le-refl, mul-le-mul-left, mul-le-mul-right, pow-suc, pow-zero, one-le-pow, pos-of-ne-zero, mul-assoc, mul-comm, one-mul}
 use native.Mathlib.Decide.{ℕ-discrete, decLe}
 use native.Mathlib.Omega.{arith}
-use lib.Dec.{T, eqb, eqb→eq}
+use lib.Dec.{eqb}
 use borrow.Author.Tests.{eq-eqb, eqb-true}
 use Rattle.lists.proofs.Search.{first-found}
 use Rattle.residue.specs.Congruence.{Cong}
 use Rattle.residue.specs.Units.{Coprime, Prime, Bezout, inverse}
-use Rattle.residue.proofs.Congruence.{rfl, of-eq, sy, tr, add, mul, modulo, multiple, zero-l, same-below, Invertible}
+use Rattle.residue.proofs.Congruence.{rfl, of-eq, sy, tr, add, mul, modulo, multiple, same-below, Invertible}
 
 -- ---- Euclid's division
 

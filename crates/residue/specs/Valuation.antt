@@ -1,6 +1,5 @@
 -- A number as θ p^u.
 -- Assumes nothing.
-use mathlib.Core.Bool.{Bool, true, false}
 use Prim.Native.Nat.{ℕ, zero, suc, _/_, _%_, _^_}
 
 -- u: the highest power with p^u dividing d, at most f; so f where d is 0

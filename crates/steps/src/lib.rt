@@ -313,3 +313,50 @@ pub fn run(s: &[u32; 128], n: usize, ring: Ring, a: &mut [u32; 129], lens: &mut 
     }
     *a = cur[0];
 }
+
+// The rows before step n, as the step sees them: a of each row, its length, and u and theta of its discrepancy.
+pub fn rows(
+    s: &[u32; 128],
+    n: usize,
+    ring: Ring,
+    cur: &mut [[u32; 129]; ROWS],
+    len: &mut [usize; ROWS],
+    us: &mut [usize; ROWS],
+    ts: &mut [u32; ROWS],
+)
+    requires { ⌜ Setting ring (now s) × (n < 128) ⌝ }
+    ensures { λ _. ⌜ Rows ring (now (s .entry)) n (now (cur .exit)) × Lens ring (now (s .entry)) n (now (len .exit))
+        × Looks ring (now (s .entry)) n (now (us .exit)) (now (ts .exit)) ⌝ }
+{
+    let mut old = [[0u32; 129]; ROWS];
+    let mut saved = [[0u32; 129]; ROWS];
+    let mut next = [0usize; ROWS];
+    let mut when = [0usize; ROWS];
+    let mut reach = [0usize; ROWS];
+    let mut mult = [0u32; ROWS];
+    *cur = [[0u32; 129]; ROWS];
+    *len = [0usize; ROWS];
+    *us = [0usize; ROWS];
+    *ts = [0u32; ROWS];
+    start(cur, ring.p, ring.e);
+    let mut k: usize = 0;
+    while k < n {
+        step(
+            cur,
+            &mut old,
+            len,
+            &mut when,
+            &mut reach,
+            &mut mult,
+            &mut next,
+            &mut saved,
+            us,
+            ts,
+            s,
+            k,
+            ring,
+        );
+        k += 1;
+    }
+    look(cur, len, s, n, ring, us, ts);
+}

@@ -1,7 +1,7 @@
 -- `guarantees::one` meets its contract.
 -- Assumes nothing.
 use borrow.Author.Needs.{needs}
-use mathlib.Core.Path.{_≡_, refl, sym, ap, _∙_}
+use mathlib.Core.Path.{sym, ap, _∙_}
 use Prim.Native.Nat.{ℕ}
 use Rattle.sequence.specs.declared.Pushed.{Pushed}
 use Rattle.guarantees.proofs.Driving.{is-push}

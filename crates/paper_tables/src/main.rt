@@ -1,0 +1,198 @@
+// Tables 1 and 2 of Reeds and Sloane, section 6: the steps on 6, 3, 1, 5, 6 modulo 9.
+//
+// The file `stdout` is typed from the paper, not from what is written here: polynomials as lists of coefficients from place 0 on, the
+// quintuples with spaces. One place differs: at k = 0 Table 2 has the f of the longer version of the steps, which is not the one proved,
+// and a star stands for it.
+use libc::STDOUT_FILENO;
+use steps::Ring;
+ghost use mathlib.Core.Path.{_≡_};
+ghost use Prim.Native.Nat.{ℕ, _%_, _≤_, _<_};
+ghost use Rattle.lists.specs.Table.{at};
+ghost use Rattle.recurrence.specs.Polynomial.{conv};
+ghost use Rattle.steps.specs.Run.{Below, Setting};
+
+// The number of terms.
+const TERMS: usize = 5;
+
+fn text(s: &[u8]) {
+    io::write_all(STDOUT_FILENO, s);
+}
+
+fn number(n: usize) {
+    io::print_decimal(STDOUT_FILENO, n as u64);
+}
+
+fn value(n: u32) {
+    number(n as usize);
+}
+
+// k and eta, which stand before each line.
+fn place(k: usize, eta: usize) {
+    number(k);
+    text(b" ");
+    number(eta);
+    text(b" ");
+}
+
+// How many coefficients are printed: all up to the last that is not 0, and at least one.
+fn shown(x: &[u32; 129]) -> usize
+    ensures { λ r. ⌜ r ≤ 129 ⌝ }
+{
+    let mut n: usize = 129;
+    while 1 < n {
+        if x[n - 1] != 0 {
+            return n;
+        }
+        n -= 1;
+    }
+    n
+}
+
+// Coefficients, with commas between.
+fn polynomial(x: &[u32; 129]) {
+    let n = shown(x);
+    value(x[0]);
+    let mut i: usize = 1;
+    while i < n {
+        text(b",");
+        value(x[i]);
+        i += 1;
+    }
+}
+
+// b from a: the first l coefficients of the product of s and a, modulo q.
+fn second(s: &[u32; 128], a: &[u32; 129], l: usize, q: u32) -> [u32; 129]
+    requires { ⌜ (l ≤ 128) × (0 < q) × Below 129 65536 (now a) × Below 128 65536 (now s) ⌝ }
+    ensures { λ r. ⌜ ((i : ℕ) → i < l → at r i ≡ conv (at (now (s .entry))) (at (now (a .entry))) i % q)
+        × ((i : ℕ) → l ≤ i → at r i ≡ 0) ⌝ }
+{
+    let mut b = [0u32; 129];
+    let mut i: usize = 0;
+    while i < l {
+        b[i] = steps::coefficient(a, s, i, i, q);
+        i += 1;
+    }
+    b
+}
+
+// A line of Table 1: a and b of row eta before step k.
+fn pair(k: usize, eta: usize, s: &[u32; 128], a: &[u32; 129], l: usize, q: u32)
+    requires { ⌜ (l ≤ 128) × (0 < q) × Below 129 65536 (now a) × Below 128 65536 (now s) ⌝ }
+{
+    place(k, eta);
+    polynomial(a);
+    text(b" ");
+    let b = second(s, a, l, q);
+    polynomial(&b);
+    text(b"\n");
+}
+
+fn pairs(k: usize, s: &[u32; 128], ring: Ring)
+    requires { ⌜ Setting ring (now s) × (k < 128) ⌝ }
+{
+    let mut cur = [[0u32; 129]; 15];
+    let mut len = [0usize; 15];
+    let mut us = [0usize; 15];
+    let mut ts = [0u32; 15];
+    steps::rows(s, k, ring, &mut cur, &mut len, &mut us, &mut ts);
+    let mut i: usize = 0;
+    while i < ring.e {
+        pair(k, i, s, &cur[i], len[i], ring.q);
+        i += 1;
+    }
+}
+
+// f and the case.
+fn case(len: &[usize; 15], u: usize, e: usize)
+    requires { ⌜ e ≤ 15 ⌝ }
+{
+    if e <= u {
+        text(b"* I");
+        return;
+    }
+    let f = e - 1 - u;
+    number(f);
+    if len[f] == 0 {
+        text(b" IIa");
+        return;
+    }
+    text(b" IIb");
+}
+
+// What step k sees of a row, and what it does to it. There is no step after the last term.
+fn seen(k: usize, len: &[usize; 15], u: usize, t: u32, e: usize)
+    requires { ⌜ e ≤ 15 ⌝ }
+{
+    if k == TERMS {
+        text(b"* * * *");
+        return;
+    }
+    number(u);
+    text(b" ");
+    value(t);
+    text(b" ");
+    if k == 0 {
+        text(b"* *");
+        return;
+    }
+    case(len, u, e);
+}
+
+// A line of Table 2: l, u, theta, f and the case of row eta at step k.
+fn quintuple(k: usize, eta: usize, len: &[usize; 15], u: usize, t: u32, e: usize)
+    requires { ⌜ (eta < e) × (e ≤ 15) ⌝ }
+{
+    place(k, eta);
+    number(len[eta]);
+    text(b" ");
+    seen(k, len, u, t, e);
+    text(b"\n");
+}
+
+fn quintuples(k: usize, s: &[u32; 128], ring: Ring)
+    requires { ⌜ Setting ring (now s) × (k < 128) ⌝ }
+{
+    let mut cur = [[0u32; 129]; 15];
+    let mut len = [0usize; 15];
+    let mut us = [0usize; 15];
+    let mut ts = [0u32; 15];
+    steps::rows(s, k, ring, &mut cur, &mut len, &mut us, &mut ts);
+    let mut i: usize = 0;
+    while i < ring.e {
+        quintuple(k, i, &len, us[i], ts[i], ring.e);
+        i += 1;
+    }
+}
+
+fn tables(s: &[u32; 128], ring: Ring)
+    requires { ⌜ Setting ring (now s) ⌝ }
+{
+    text(b"Table 1\nk eta a b\n");
+    let mut k: usize = 0;
+    while k <= TERMS {
+        pairs(k, s, ring);
+        k += 1;
+    }
+    text(b"Table 2\nk eta l u theta f case\n");
+    k = 0;
+    while k <= TERMS {
+        quintuples(k, s, ring);
+        k += 1;
+    }
+}
+
+fn main() {
+    let mut s = [0u32; 128];
+    s[0] = 6;
+    s[1] = 3;
+    s[2] = 1;
+    s[3] = 5;
+    s[4] = 6;
+    let ring = Ring {
+        p: 3,
+        e: 2,
+        q: 9,
+        scale: residue::scale(9),
+    };
+    tables(&s, ring);
+}

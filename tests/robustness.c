@@ -1,0 +1,417 @@
+/* Many calls through the C interface, with every buffer at the edge of a page that nobody may touch.
+ *
+ *   robustness --back, robustness --front
+ *       replays the script on standard input and writes the same text as the second program for verify, generate, synthesize and look_up;
+ *       the other operations are passed over. --back puts the end of each buffer at the forbidden page, --front its start.
+ *   robustness --expand SEED COPIES
+ *       writes the script on standard input again, with so many altered copies behind each of these calls.
+ *
+ * Exit 0; 1 if the script is not whole or a byte outside the lent ones has changed; 2 for bad usage; 3 if a forbidden byte was touched. */
+#define _DEFAULT_SOURCE
+#include "diverthrone.h"
+
+#include <signal.h>
+#include <stdio.h>
+#include <stdlib.h>
+#include <string.h>
+#include <sys/mman.h>
+#include <unistd.h>
+
+enum { VERIFY = 4, GENERATE = 5, SYNTHESIZE = 6, LOOK_UP = 7, FORGE = 8 };
+enum { HEADER = 16, WIDEST = 65535, PAINT = 0xC3, NEAR = 1024 };
+enum { QUERY = DIVERTHRONE_QUERY_BYTES, A = DIVERTHRONE_A_BYTES, B = DIVERTHRONE_B_BYTES, RECORD = DIVERTHRONE_RECORD_BYTES };
+enum { LENGTH_AT = 260, A_AT = 262, B_AT = 520 };
+
+static const char *const names[] = {"open", "push", "register", "profile", "verify", "generate", "synthesize", "look_up", "forge"};
+static const size_t input_counts[] = {0, 0, 0, 0, 3, 2, 1, 2, 1};
+
+/* One call of a script; the inputs come first among its buffers, a buffer lent for writing follows them. */
+struct call {
+    unsigned op, fill;
+    uint32_t number, l;
+    size_t len[3];
+    uint8_t bytes[3][WIDEST + 1];
+};
+
+static size_t inputs(const struct call *c) { return input_counts[c->op]; }
+
+static int tested(const struct call *c) { return c->op >= VERIFY && c->op <= LOOK_UP; }
+
+static size_t buffers(const struct call *c) { return c->op == VERIFY ? 3 : inputs(c) + 1; }
+
+static void stop(int status, const char *why) {
+    fflush(stdout);
+    fprintf(stderr, "robustness: %s\n", why);
+    exit(status);
+}
+
+/* ---- the script ---- */
+
+static uint32_t number_at(const uint8_t *s, size_t bytes) {
+    uint32_t v = 0;
+    for (size_t i = bytes; i > 0; i--) v = v << 8 | s[i - 1];
+    return v;
+}
+
+static void number_to(uint8_t *s, uint32_t v, size_t bytes) {
+    for (size_t i = 0; i < bytes; i++) s[i] = (uint8_t)(v >> 8 * i);
+}
+
+/* The text ends as the second program's does, so that broken scripts can be compared too. */
+static void broken(const char *how) {
+    printf("script %s\n", how);
+    stop(1, "the script is not whole");
+}
+
+/* The next call; 0 at the end. */
+static int read_call(struct call *c) {
+    uint8_t h[HEADER];
+    char unknown[16];
+    size_t got = fread(h, 1, HEADER, stdin);
+    if (got == 0) return 0;
+    if (got < HEADER) broken("cut short");
+    snprintf(unknown, sizeof unknown, "unknown %u", (unsigned)h[0]);
+    if (h[0] > FORGE) broken(unknown);
+    c->op = h[0], c->fill = h[1], c->number = number_at(h + 4, 4), c->l = number_at(h + 14, 2);
+    for (size_t i = 0; i < 3; i++) c->len[i] = number_at(h + 8 + 2 * i, 2);
+    if (c->op == FORGE && c->len[0] != QUERY) broken("bad forge");
+    for (size_t i = 0; i < inputs(c); i++)
+        if (fread(c->bytes[i], 1, c->len[i], stdin) != c->len[i]) broken("cut short");
+    return 1;
+}
+
+static void write_call(const struct call *c) {
+    uint8_t h[HEADER] = {(uint8_t)c->op, (uint8_t)c->fill};
+    number_to(h + 4, c->number, 4);
+    for (size_t i = 0; i < 3; i++) number_to(h + 8 + 2 * i, (uint32_t)c->len[i], 2);
+    number_to(h + 14, c->l, 2);
+    fwrite(h, 1, HEADER, stdout);
+    for (size_t i = 0; i < inputs(c); i++) fwrite(c->bytes[i], 1, c->len[i], stdout);
+}
+
+/* ---- the guarded areas ---- */
+
+/* Pages that may be used between two that may not; painted wherever no buffer is lent. */
+struct area {
+    uint8_t *start;
+    size_t size;
+};
+
+static struct area areas[3];
+static int at_back;
+static volatile unsigned long calls_made;
+
+static void allow(const struct area *area, int how) {
+    if (mprotect(area->start, area->size, how) != 0) stop(2, "the pages cannot be protected");
+}
+
+static void map_area(struct area *area) {
+    size_t page = (size_t)sysconf(_SC_PAGESIZE);
+    area->size = (WIDEST / page + 1) * page;
+    uint8_t *all = mmap(NULL, area->size + 2 * page, PROT_NONE, MAP_PRIVATE | MAP_ANONYMOUS, -1, 0);
+    if (all == MAP_FAILED) stop(2, "no memory");
+    area->start = all + page;
+    allow(area, PROT_READ | PROT_WRITE);
+    memset(area->start, PAINT, area->size);
+}
+
+static uint8_t *place(const struct area *area, size_t len) { return at_back ? area->start + area->size - len : area->start; }
+
+/* The side away from the guard page does not trap a write, so its paint is looked at. */
+static void check_paint(const struct area *area, size_t len) {
+    size_t left = area->size - len, some = left < NEAR ? left : NEAR;
+    const uint8_t *near = at_back ? place(area, len) - some : place(area, len) + len;
+    for (size_t i = 0; i < some; i++)
+        if (near[i] != PAINT) stop(1, "a byte outside the lent ones has changed");
+}
+
+static void trapped(int signal_number) {
+    char text[64];
+    int size = snprintf(text, sizeof text, "robustness: signal %d in call %lu\n", signal_number, calls_made);
+    if (size > 0 && write(STDERR_FILENO, text, (size_t)size) != size) _exit(4);
+    _exit(3);
+}
+
+/* ---- the calls ---- */
+
+static uint64_t enter(const struct call *c, uint8_t *const p[3]) {
+    const size_t *n = c->len;
+    switch (c->op) {
+    case VERIFY: return diverthrone_verify(p[0], n[0], p[1], n[1], p[2], n[2], c->number);
+    case GENERATE: return diverthrone_generate(c->number, p[0], n[0], p[1], n[1], c->l, p[2], n[2]);
+    case SYNTHESIZE: return diverthrone_synthesize(p[0], n[0], p[1], n[1]);
+    default: return diverthrone_look_up(p[0], n[0], p[1], n[1], p[2], n[2]);
+    }
+}
+
+static uint32_t hash(const uint8_t *s, size_t len) {
+    uint32_t state = 0x811c9dc5;
+    for (size_t i = 0; i < len; i++) state = (state ^ s[i]) * 0x01000193u;
+    return state;
+}
+
+/* A value where there should be none is written out, so that the comparison finds it. */
+static void print_reply(unsigned op, uint64_t reply) {
+    unsigned refusal = diverthrone_refusal(reply);
+    unsigned long long value = diverthrone_value(reply);
+    if (refusal != 0 && value != 0)
+        printf("%s refused %u with the value %llu", names[op], refusal, value);
+    else if (refusal != 0)
+        printf("%s refused %u", names[op], refusal);
+    else if (op == VERIFY || op == LOOK_UP)
+        value == 0 ? printf("%s %s", names[op], op == VERIFY ? "yes" : "made")
+                   : printf("%s %s %llu", names[op], op == VERIFY ? "no" : "found", value - 1);
+    else
+        value == 0 ? printf("%s ok", names[op]) : printf("%s ok with the value %llu", names[op], value);
+}
+
+static void lend(const struct call *c, uint8_t *p[3]) {
+    for (size_t i = 0; i < buffers(c); i++) {
+        p[i] = place(&areas[i], c->len[i]);
+        if (i >= inputs(c)) {
+            memset(p[i], (int)c->fill, c->len[i]);
+            continue;
+        }
+        memcpy(p[i], c->bytes[i], c->len[i]);
+        allow(&areas[i], PROT_READ);
+    }
+}
+
+static void make(const struct call *c) {
+    uint8_t *p[3] = {NULL, NULL, NULL};
+    lend(c, p);
+    calls_made++;
+    print_reply(c->op, enter(c, p));
+    for (size_t i = 0; i < buffers(c); i++) {
+        if (i >= inputs(c))
+            printf(" %08x", (unsigned)hash(p[i], c->len[i]));
+        else if (memcmp(p[i], c->bytes[i], c->len[i]) != 0)
+            stop(1, "an input has changed");
+        check_paint(&areas[i], c->len[i]);
+        allow(&areas[i], PROT_READ | PROT_WRITE);
+        memset(p[i], PAINT, c->len[i]);
+    }
+    putchar('\n');
+}
+
+static int replay(struct call *c) {
+    struct sigaction action;
+    memset(&action, 0, sizeof action);
+    action.sa_handler = trapped;
+    if (sigaction(SIGSEGV, &action, NULL) != 0 || sigaction(SIGBUS, &action, NULL) != 0) stop(2, "no signal handler");
+    for (size_t i = 0; i < 3; i++) map_area(&areas[i]);
+    while (read_call(c))
+        if (tested(c)) make(c);
+    return 0;
+}
+
+/* ---- altered copies ---- */
+
+static uint64_t state;
+
+/* Drawn in an order that C fixes, so that a seed gives the same script with every compiler. */
+static uint32_t any(void) {
+    uint64_t z = state += 0x9E3779B97F4A7C15u;
+    z = (z ^ z >> 30) * 0xBF58476D1CE4E5B9u;
+    z = (z ^ z >> 27) * 0x94D049BB133111EBu;
+    return (uint32_t)(z >> 32);
+}
+
+static uint32_t below(size_t n) { return any() % (uint32_t)n; }
+
+static uint32_t pick(const uint32_t *v, size_t n) { return v[below(n)]; }
+
+static uint32_t cell(const uint8_t *s, size_t i) { return number_at(s + 2 * i, 2); }
+
+static void set_cell(uint8_t *s, size_t i, uint32_t v) { number_to(s + 2 * i, v, 2); }
+
+static uint32_t modulus(const struct call *c) {
+    if (c->op == GENERATE) return c->number;
+    return c->len[0] >= 2 ? cell(c->bytes[0], 0) : 0;
+}
+
+/* What is added to a buffer is zero, as it would be past a count or a length. */
+static void set_length(struct call *c, size_t i, size_t len) {
+    if (len > WIDEST) len = WIDEST;
+    if (len > c->len[i]) memset(c->bytes[i] + c->len[i], 0, len - c->len[i]);
+    c->len[i] = len;
+}
+
+static void one_byte(struct call *c) {
+    size_t i = below(inputs(c));
+    uint32_t bits = below(2) ? 1u << below(8) : 1 + below(255);
+    if (c->len[i] > 0) c->bytes[i][below(c->len[i])] ^= (uint8_t)bits;
+}
+
+/* The first cells get more than their share, since there the short sequences and registers lie. */
+static void one_cell(struct call *c) {
+    size_t i = below(inputs(c)), cells = c->len[i] / 2;
+    uint32_t m = modulus(c), r = any(), low = m ? r % m : 0, values[] = {0, 1, m - 1, m, m + 1, 255, 256, 65535, r, low, low};
+    if (cells == 0) return;
+    size_t at = below(1 + below(cells));
+    set_cell(c->bytes[i], at, pick(values, sizeof values / sizeof *values));
+}
+
+/* Another legal term anywhere in the sequence: a test that passed then fails there. Often the records of the same query follow. */
+static void one_term(struct call *c) {
+    if (c->op == GENERATE || c->len[0] != QUERY) return;
+    uint32_t m = modulus(c), n = cell(c->bytes[0], 1);
+    if (m == 0 || n == 0 || n > 128) return;
+    size_t at = 2 + below(n), records = c->op == LOOK_UP && below(2) ? c->len[1] / RECORD : 0;
+    uint32_t term = below(m);
+    for (size_t i = 0; i < records; i++)
+        if (memcmp(c->bytes[1] + i * RECORD, c->bytes[0], QUERY) == 0) set_cell(c->bytes[1] + i * RECORD, at, term);
+    set_cell(c->bytes[0], at, term);
+}
+
+static void one_length(struct call *c) {
+    size_t i = below(buffers(c)), len = c->len[i], less = len > 1 ? len - 2 : 0, r = any();
+    const size_t lengths[] = {0, 1, less, less + 1, len + 1, len + 2, len + RECORD, len / 2, r % 1024, r % 258};
+    set_length(c, i, lengths[below(sizeof lengths / sizeof *lengths)]);
+}
+
+static void other_fill(struct call *c) { c->fill = below(256); }
+
+/* The l of a claim, or the length in some record of a catalogue. */
+static void other_l(struct call *c) {
+    size_t records = c->len[1] / RECORD;
+    uint8_t *at = c->bytes[1] + (records ? below(records) : 0) * RECORD + LENGTH_AT;
+    uint32_t l = c->op == VERIFY ? c->number : c->op == GENERATE ? c->l : number_at(at, 2), r = any();
+    const uint32_t values[] = {l + 1, l - 1, 0, 127, 128, 129, l + 256, l + 65536, r % 129, r % 129, r};
+    l = pick(values, sizeof values / sizeof *values);
+    if (c->op == VERIFY) c->number = l;
+    if (c->op == GENERATE) c->l = l % 65536;
+    if (c->op == LOOK_UP && records > 0) number_to(at, l, 2);
+}
+
+static void reduce(uint8_t *s, size_t from, size_t to, uint32_t m) {
+    for (size_t i = from; i < to; i++) set_cell(s, i, cell(s, i) % m);
+}
+
+static void reduce_query(uint8_t *s, uint32_t m) {
+    set_cell(s, 0, m);
+    reduce(s, 2, QUERY / 2, m);
+}
+
+/* Another modulus, with every number brought below it: the call stays a legal one, at any modulus. Records of the same query follow. */
+static void other_modulus(struct call *c) {
+    uint32_t m = 2 + below(4094);
+    size_t records = c->op == LOOK_UP ? c->len[1] / RECORD : 0, first = c->op == GENERATE ? 0 : 1;
+    for (size_t i = first; c->op <= GENERATE && i < inputs(c); i++) reduce(c->bytes[i], 0, c->len[i] / 2, m);
+    if (c->op == GENERATE) c->number = m;
+    if (c->op == GENERATE || c->len[0] != QUERY) return;
+    for (size_t i = 0; i < records; i++) {
+        uint8_t *r = c->bytes[1] + i * RECORD;
+        if (memcmp(r, c->bytes[0], QUERY) != 0) continue;
+        reduce_query(r, m);
+        reduce(r, A_AT / 2, RECORD / 2, m);
+    }
+    reduce_query(c->bytes[0], m);
+}
+
+static void wild_modulus(struct call *c) {
+    uint32_t m = modulus(c), r = any(), values[] = {0, 1, 2, m - 1, m + 1, 4095, 4096, 65535, m + 65536, r % 4096, r};
+    uint32_t v = pick(values, sizeof values / sizeof *values);
+    if (c->op == GENERATE)
+        c->number = v;
+    else if (c->len[0] >= 2)
+        set_cell(c->bytes[0], 0, v);
+}
+
+/* Half of the time the cells past the new count are cleared, so that it is a legal one. */
+static void other_count(struct call *c) {
+    if (c->op == GENERATE || c->len[0] < 4) return;
+    uint32_t n = cell(c->bytes[0], 1), r = any(), values[] = {n - 1, n + 1, 0, 127, 128, 129, 256, n + 256, r % 129, r % 129, r};
+    uint32_t v = pick(values, sizeof values / sizeof *values) % 65536;
+    set_cell(c->bytes[0], 1, v);
+    if (below(2))
+        for (size_t i = 2 + v; i < c->len[0] / 2; i++) set_cell(c->bytes[0], i, 0);
+}
+
+/* A tested candidate becomes up to three records with its query. */
+static void shelve(struct call *c) {
+    uint8_t record[RECORD];
+    memcpy(record, c->bytes[0], QUERY);
+    number_to(record + LENGTH_AT, c->number, 2);
+    memcpy(record + A_AT, c->bytes[1], A);
+    memcpy(record + B_AT, c->bytes[2], B);
+    set_length(c, 1, RECORD * (1 + below(3)));
+    for (size_t at = 0; at < c->len[1]; at += RECORD) memcpy(c->bytes[1] + at, record, RECORD);
+    set_length(c, 2, RECORD);
+    c->op = LOOK_UP, c->number = 0;
+}
+
+static void run_candidate(struct call *c) {
+    uint32_t m = modulus(c);
+    c->op = GENERATE, c->l = c->number % 65536, c->number = m;
+    memmove(c->bytes[0], c->bytes[1], A), c->len[0] = A;
+    memmove(c->bytes[1], c->bytes[2], B), c->len[1] = B;
+    c->len[2] = 2 * below(130);
+}
+
+static void test_record(struct call *c) {
+    const uint8_t *r = c->bytes[1] + below(c->len[1] / RECORD) * RECORD;
+    c->op = VERIFY, c->number = number_at(r + LENGTH_AT, 2);
+    memcpy(c->bytes[2], r + B_AT, B), c->len[2] = B;
+    memmove(c->bytes[1], r + A_AT, A), c->len[1] = A;
+}
+
+static void synthesize_query(struct call *c) { c->op = SYNTHESIZE, c->number = 0, c->len[1] = RECORD, c->len[2] = 0; }
+
+static void look_up_in_none(struct call *c) { c->op = LOOK_UP, c->len[1] = 0, c->len[2] = RECORD; }
+
+/* The same bytes in another operation, which brings the candidates into records and the records into tests. */
+static void other_operation(struct call *c) {
+    uint32_t kind = below(3);
+    if (c->op == VERIFY && (c->len[1] != A || c->len[2] != B || c->len[0] != QUERY)) return;
+    if (c->op == VERIFY) {
+        if (kind == 0) shelve(c);
+        if (kind == 1) run_candidate(c);
+        if (kind == 2) synthesize_query(c);
+    } else if (c->op == SYNTHESIZE) {
+        look_up_in_none(c);
+    } else if (c->op == LOOK_UP) {
+        if (kind > 0 && c->len[1] >= RECORD)
+            test_record(c);
+        else
+            synthesize_query(c);
+    }
+}
+
+/* One alteration in three is followed by another one, for the order of the refusals. */
+static void alter(struct call *c) {
+    static void (*const ways[])(struct call *) = {one_byte,    one_cell,        one_cell,        one_term,      one_term,
+                                                  one_length,  other_fill,      other_modulus,   other_modulus, wild_modulus,
+                                                  other_count, other_operation, other_operation, other_l};
+    do ways[below(sizeof ways / sizeof *ways)](c);
+    while (below(3) == 0);
+}
+
+static void copy(struct call *to, const struct call *from) {
+    to->op = from->op, to->fill = from->fill, to->number = from->number, to->l = from->l;
+    for (size_t i = 0; i < 3; i++) to->len[i] = from->len[i];
+    for (size_t i = 0; i < inputs(from); i++) memcpy(to->bytes[i], from->bytes[i], from->len[i]);
+}
+
+static int expand(struct call *c, const char *seed, const char *copies) {
+    static struct call altered;
+    state = strtoull(seed, NULL, 10);
+    while (read_call(c)) {
+        write_call(c);
+        for (unsigned long i = strtoul(copies, NULL, 10); tested(c) && i > 0; i--) {
+            copy(&altered, c);
+            alter(&altered);
+            write_call(&altered);
+        }
+    }
+    return 0;
+}
+
+int main(int argc, char **argv) {
+    static struct call c;
+    at_back = argc == 2 && strcmp(argv[1], "--back") == 0;
+    if (at_back || (argc == 2 && strcmp(argv[1], "--front") == 0)) return replay(&c);
+    if (argc == 4 && strcmp(argv[1], "--expand") == 0) return expand(&c, argv[2], argv[3]);
+    fprintf(stderr, "usage: robustness --back | --front | --expand SEED COPIES\n");
+    return 2;
+}

@@ -1,0 +1,89 @@
+#!/bin/sh
+# Compares very many calls through the C interface with the second program: every reply and every byte lent for writing.
+# Usage: robustness.sh [CALLS]; at least so many calls are compared, 1,000,000 if left out.
+# Each of them is made four times: with the end and with the start of every buffer at a page that traps, by a build of the C side with
+# the sanitizers and by one without. Exit 0 if all agree; 1 at the first difference or trap, which is shown with the seed that leads to it.
+set -eu
+here=$(CDPATH='' cd -- "$(dirname -- "$0")" && pwd)
+cd -- "$here/.."
+least=${1:-1000000}
+copies=4
+began=$(date +%s)
+work=$(mktemp -d)
+trap 'rm -rf -- "$work"' EXIT
+trap 'exit 1' HUP INT TERM
+
+compile() {
+    output=$1
+    shift
+    gcc -std=c11 -Wall -Wextra -Werror "$@" -Iinclude tests/robustness.c target/staticlib/libdiverthrone.a -o "$work/$output"
+}
+
+build() {
+    reference/build.sh "$work/reference"
+    if ! rt staticlib diverthrone >"$work/log" 2>&1; then
+        cat "$work/log"
+        exit 1
+    fi
+    compile sanitized -O1 -g -fsanitize=address,undefined -fno-sanitize-recover=all
+    compile plain -O2
+}
+
+# PROGRAM SIDE ROUND: makes the calls of the script and compares the text.
+compare() {
+    status=0
+    "$work/$1" "$2" <"$work/script" >"$work/got" || status=$?
+    if [ "$status" -eq 0 ] && cmp -s "$work/want" "$work/got"; then
+        return
+    fi
+    echo "robustness: $3, $1 $2: exit $status"
+    awk -v got="$work/got" '{
+        if ((getline line <got) <= 0) line = "nothing more"
+        if (line != $0) { print "line " NR ": second program: " $0 "; here: " line; exit }
+    }' "$work/want"
+    exit 1
+}
+
+# KIND SEED COUNT: the calls of one generator with their altered copies.
+round() {
+    "$work/reference" "$1" "$2" "$3" >"$work/plan"
+    "$work/sanitized" --expand "$2" "$copies" <"$work/plan" >"$work/script"
+    "$work/reference" replay <"$work/script" >"$work/all"
+    grep -E '^(verify|generate|synthesize|look_up) ' "$work/all" >"$work/want"
+    for program in sanitized plain; do
+        for side in --back --front; do
+            compare "$program" "$side" "$1 $2 $3 with $copies copies"
+        done
+    done
+    awk '{ n[$1]++; if ($2 == "refused") n[$3]++ } END { for (k in n) print k, n[k] }' "$work/want" >>"$work/tally"
+    calls=$((calls + $(wc -l <"$work/want")))
+}
+
+# A refusal that was never seen is a fault of the test.
+total() {
+    awk -v calls="$calls" -v seeds="$seed" -v seconds=$(($(date +%s) - began)) '
+        { n[$1] += $2 }
+        END {
+            printf "robustness: %d calls compared, each made 4 times, 0 differences;", calls
+            operations = split("verify generate synthesize look_up", k)
+            for (i = 1; i <= operations; i++) printf " %s %d,", k[i], n[k[i]]
+            printf " refused"
+            refusals = split("1 2 3 4 5 6 23 24", r)
+            for (i = 1; i <= refusals; i++) {
+                printf " %s: %d,", r[i], n[r[i]]
+                unseen += n[r[i]] == 0
+            }
+            printf " %d seeds, %d seconds\n", seeds, seconds
+            exit unseen > 0
+        }' "$work/tally"
+}
+
+build
+calls=0
+seed=0
+while [ "$calls" -lt "$least" ] || [ "$seed" -eq 0 ]; do
+    seed=$((seed + 1))
+    round candidates "$seed" 3000
+    round catalogues "$seed" 3000
+done
+total

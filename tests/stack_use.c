@@ -1,0 +1,125 @@
+/* How much stack the calls of the C interface use: each runs in a thread of its own on a painted stack, and the deepest byte that lost its
+ * paint counts, from the frame of the caller down. Usage: stack_use [LIMIT]; exit 1 if a call used more than LIMIT bytes or did not end as
+ * it should. */
+#define _DEFAULT_SOURCE
+#include "diverthrone.h"
+
+#include <pthread.h>
+#include <stdio.h>
+#include <stdlib.h>
+#include <string.h>
+#include <sys/mman.h>
+
+enum { TERMS = 128, STACK = 1 << 17, PAINT = 0xC3 };
+enum { NOTHING, VERIFY, GENERATE, SYNTHESIZE, MADE, FOUND, KINDS };
+
+static const char *const names[KINDS] = {"no call", "verify", "generate", "synthesize", "look_up made", "look_up found"};
+static uint8_t *stack, *caller;
+static uint8_t query[DIVERTHRONE_QUERY_BYTES], record[DIVERTHRONE_RECORD_BYTES], shelf[DIVERTHRONE_RECORD_BYTES], cells[2 * TERMS];
+static uint32_t modulus;
+static uint64_t state = 1;
+
+static uint32_t below(uint32_t n) {
+    state = state * 6364136223846793005u + 1442695040888963407u;
+    return (uint32_t)(state >> 33) % n;
+}
+
+static void put(uint8_t *s, size_t cell, uint32_t v) {
+    s[2 * cell] = (uint8_t)(v % 256);
+    s[2 * cell + 1] = (uint8_t)(v / 256);
+}
+
+static uint64_t enter(int kind) {
+    const uint8_t *a = shelf + 262, *b = shelf + 520;
+    uint32_t l = shelf[260] + 256u * shelf[261];
+    switch (kind) {
+    case VERIFY: return diverthrone_verify(query, sizeof query, a, DIVERTHRONE_A_BYTES, b, DIVERTHRONE_B_BYTES, l);
+    case GENERATE: return diverthrone_generate(modulus, a, DIVERTHRONE_A_BYTES, b, DIVERTHRONE_B_BYTES, l, cells, sizeof cells);
+    case SYNTHESIZE: return diverthrone_synthesize(query, sizeof query, record, sizeof record);
+    case MADE: return diverthrone_look_up(query, sizeof query, shelf, 0, record, sizeof record);
+    case FOUND: return diverthrone_look_up(query, sizeof query, shelf, sizeof shelf, record, sizeof record);
+    default: return 0;
+    }
+}
+
+static void *run(void *argument) {
+    int *kind = argument;
+    caller = __builtin_frame_address(0);
+    *kind = enter(*kind) == (*kind == FOUND ? 256u : 0u);
+    return NULL;
+}
+
+static void need(int holds, const char *what) {
+    if (holds) return;
+    fprintf(stderr, "stack_use: %s\n", what);
+    exit(1);
+}
+
+static size_t depth(int kind) {
+    pthread_t thread;
+    pthread_attr_t attributes;
+    int argument = kind;
+    memset(stack, PAINT, STACK);
+    need(pthread_attr_init(&attributes) == 0 && pthread_attr_setstack(&attributes, stack, STACK) == 0, "no stack for the thread");
+    need(pthread_create(&thread, &attributes, run, &argument) == 0 && pthread_join(thread, NULL) == 0, "no thread");
+    pthread_attr_destroy(&attributes);
+    need(argument == 1, names[kind]);
+    uint8_t *lowest = stack;
+    while (lowest < caller && *lowest == PAINT) lowest++;
+    need(lowest > stack, "the stack is too small to measure");
+    return (size_t)(caller - lowest);
+}
+
+/* Random terms, a short recurrence, or zeros before a last 1, whose register is as long as the sequence. */
+static void make_query(int shape) {
+    uint32_t x = below(modulus), y = below(modulus);
+    put(query, 0, modulus);
+    put(query, 1, TERMS);
+    for (size_t i = 0; i < TERMS; i++) {
+        uint32_t z = (x + y) % modulus;
+        put(query, 2 + i, shape == 0 ? below(modulus) : shape == 1 ? z : i == TERMS - 1);
+        x = y, y = z;
+    }
+}
+
+/* The largest depths for one modulus go up into `most`. */
+static void measure(uint32_t m, size_t most[KINDS]) {
+    modulus = m;
+    for (int shape = 0; shape < 3; shape++) {
+        make_query(shape);
+        need(diverthrone_synthesize(query, sizeof query, shelf, sizeof shelf) == 0, "a record for the catalogue");
+        for (int kind = 0; kind < KINDS; kind++) {
+            size_t d = depth(kind);
+            if (d > most[kind]) most[kind] = d;
+        }
+    }
+}
+
+static void print_row(const char *title, const size_t most[KINDS]) {
+    printf("%-14s", title);
+    for (int kind = 0; kind < KINDS; kind++) printf(" %13zu", most[kind]);
+    putchar('\n');
+}
+
+int main(int argc, char **argv) {
+    static const uint32_t shown[] = {2048, 2310, 3600, 4095};
+    size_t all[KINDS] = {0}, deepest = 0;
+    stack = mmap(NULL, STACK, PROT_READ | PROT_WRITE, MAP_PRIVATE | MAP_ANONYMOUS, -1, 0);
+    need(stack != MAP_FAILED, "no memory");
+    printf("%-14s", "bytes");
+    for (int kind = 0; kind < KINDS; kind++) printf(" %13s", names[kind]);
+    putchar('\n');
+    for (size_t i = 0; i < sizeof shown / sizeof *shown; i++) {
+        char title[16];
+        size_t most[KINDS] = {0};
+        measure(shown[i], most);
+        snprintf(title, sizeof title, "m = %u", (unsigned)shown[i]);
+        print_row(title, most);
+    }
+    for (uint32_t m = 2; m <= 4095; m++) measure(m, all);
+    print_row("all moduli", all);
+    for (int kind = 0; kind < KINDS; kind++)
+        if (all[kind] > deepest) deepest = all[kind];
+    printf("stack use: at most %zu bytes\n", deepest);
+    return argc > 1 && deepest > strtoull(argv[1], NULL, 10);
+}
