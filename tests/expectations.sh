@@ -14,7 +14,7 @@ mkdir -p "$output/replay" "$output/listing"
 {
     "$reference" calls 11 500
     "$reference" candidates 12 1000
-    "$reference" catalogues 13 300
+    "$reference" catalogues 14 300
 } >"$output/replay/stdin"
 "$reference" replay <"$output/replay/stdin" >"$output/replay/stdout"
 
