@@ -112,7 +112,7 @@ module _ {m : ℕ} {S : List ℕ} {n Q R : ℕ} {a lengths : List ℕ} (g : Gath
       prime-power-coprime (f .prime) (f .exponent) R′ (least-prime R big) (least-exponent R big) (least-parts R big .bare) d y x
 
   -- the ring of that prime power is fit for the steps
-  few-rows : R < 4096 → f .exponent ≤ 15
+  few-rows : R < 65536 → f .exponent ≤ 15
   few-rows small = go (decLe (f .exponent) 15)
     where
       go : Dec (f .exponent ≤ 15) → f .exponent ≤ 15
@@ -122,7 +122,7 @@ module _ {m : ℕ} {S : List ℕ} {n Q R : ℕ} {a lengths : List ℕ} (g : Gath
           let on : f .prime ^ 16 ≤ v = pow-le-pow-right {n = f .prime} (omega (arith, least-prime R big .big)) {i = 16} {j = f .exponent} (omega arith) in
           absurd (omega (arith, value-most R big))
 
-  pub ring-fits : R < 4096 → Below 128 65536 S → Setting (ringOf f) S
+  pub ring-fits : R < 65536 → Below 128 65536 S → Setting (ringOf f) S
   ring-fits small terms =
       record {
         prime = least-prime R big;

@@ -1,6 +1,6 @@
 -- `cells::write` meets its contract: the cells below i hold the numbers below i, and the rest is as it came.
 -- Assumes nothing.
-use Prim.Native.Nat.{_-_}
+use Prim.Native.Nat.{_-_, _<_}
 use native.Mathlib.Omega.{arith}
 use lib.ListN.{length}
 use borrow.Author.Needs.{needs}
@@ -37,7 +37,8 @@ loop-less c = omega arith
 loop-again : tie.Need-loop-again Inv-loop μ-loop
 loop-again c =
     let l = c .before .before .before .before .before .before in
-    written-more (l .before .before .before .pre) _ (l .loop .inv) (c .before .before .before .before .before .loop-test .taken) (c .before .before .put .ensures)
+    let h : l .loop .i < length (l .before .before .before .args .values .now) = omega (arith, l .loop .inv .within) in
+    written-more (l .before .before .before .pre) _ (l .loop .inv) h (c .before .before .put .ensures)
 
 same-length : tie.Need-same-length Inv-loop μ-loop
 same-length c = c .before .loop .inv .size
