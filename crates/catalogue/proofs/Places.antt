@@ -13,7 +13,7 @@ use Rattle.cells.proofs.Laws.{length-bytesOf, cellAt-bytesOf}
 use Rattle.sequence.specs.declared.Sequence.{Sequence}
 use Rattle.sequence.specs.Limits.{queryBytes, aBytes, bBytes}
 use Rattle.sequence.specs.Report.{registerOf, aBuffer, bBuffer}
-use Rattle.catalogue.specs.Rules.{recordBytes, aPlace, bPlace, lengthCell, layout}
+use Rattle.catalogue.specs.Rules.{aPlace, bPlace, lengthCell, layout}
 
 pub length-a : (s : Sequence) → length (aBuffer s) ≡ aBytes
 length-a s =
@@ -41,11 +41,6 @@ module _ (query : List ℕ) (s : Sequence) (size : length query ≡ queryBytes) 
   grouped : layout query s ≡ head ++ (aBuffer s ++ bBuffer s)
   unfolding head layout l
   grouped = sym (append-assoc query l (aBuffer s ++ bBuffer s))
-
-  pub layout-length : length (layout query s) ≡ recordBytes
-  layout-length =
-      ap length grouped
-      ∙ omega (arith, length-append head (aBuffer s ++ bBuffer s), length-append (aBuffer s) (bBuffer s), head-long, length-a s, length-b s)
 
   pub layout-query : take queryBytes (layout query s) ≡ query
   unfolding layout

@@ -50,27 +50,7 @@ at-high (x ∷ xs) (suc i) =
 pub cellAt-bytesOf : (xs : List ℕ) (i : ℕ) → at xs i < 65536 → cellAt (bytesOf xs) i ≡ at xs i
 cellAt-bytesOf xs i small = omega (arith, at-low xs i, at-high xs i)
 
--- lists that are written alike are equal
-pub bytesOf-injective :
-    (xs ys : List ℕ) → length xs ≡ length ys → ((i : ℕ) → i < length xs → at xs i < 65536) → ((i : ℕ) → i < length ys → at ys i < 65536) → bytesOf xs ≡ bytesOf ys → xs ≡ ys
-bytesOf-injective xs ys l h k e =
-    ext-getD zero xs ys l λ i b.
-    sym (cellAt-bytesOf xs i (h i b)) ∙ ap (λ s. cellAt s i) e ∙ cellAt-bytesOf ys i (k i (omega arith))
-
 -- ---- cells of a buffer
-
-pub cellAt-small : (s : List ℕ) (i : ℕ) → ((j : ℕ) → at s j < 256) → cellAt s i < 65536
-cellAt-small s i h = omega (arith, h (2 * i), h (2 * i + 1))
-
--- the first cell, and those after it
-pub cellsFrom-more : (s : List ℕ) (k n : ℕ) → cellsFrom s k (suc n) ≡ cellAt s k ∷ cellsFrom s (k + 1) n
-unfolding tabulate
-cellsFrom-more s k n =
-    let z : k + zero ≡ k = omega arith in
-    ap₂ (λ x xs. x ∷ xs) (ap (cellAt s) z)
-    (tabulate-eq n (λ i. cellAt s (k + suc i)) (λ i. cellAt s (k + 1 + i)) λ i h.
-    let e : k + suc i ≡ k + 1 + i = omega arith in
-    ap (cellAt s) e)
 
 -- cell i among the first n
 pub at-cells : (s : List ℕ) (n i : ℕ) → i < n → at (cellsFrom s 0 n) i ≡ cellAt s i

@@ -9,15 +9,17 @@ use native.Mathlib.Nat.{not-suc-le-zero}
 use native.Mathlib.Omega.{arith}
 use lib.ListN.{length, set, replicate, length-append, getD-replicate, List·getD-append}
 use lib.Seq.{set-at, getD-append-add, getD-append-seam}
-use borrow.Author.Tests.{lt-ltb, le-ltb, le-leb, lt-leb, eq-eqb, ne-eqb}
+use borrow.Author.Tests.{lt-ltb, le-ltb}
 use borrow.Author.Count.{below-more}
 use Rattle.lists.specs.Table.{at}
 use Rattle.lists.proofs.Search.{lt-or-le}
 use Rattle.sequence.specs.declared.Sequence.{Sequence}
 use Rattle.sequence.specs.declared.Outcome.the-variants.{Done}
+use Rattle.sequence.specs.declared.Opened.{Opened}
+use Rattle.sequence.specs.declared.Pushed.{Pushed}
 use Rattle.sequence.specs.Limits.{maxModulus}
-use Rattle.sequence.specs.Rules.{openOf, pushOf, faultOf, isSound}
-use Rattle.sequence.proofs.Laws.{of-sound}
+use Rattle.sequence.specs.Rules.{openOf, pushOf, faultOf, isSound, IsSound}
+use Rattle.sequence.proofs.Laws.{is-sound, open-done, push-done, push-full, push-large}
 use Rattle.guarantees.specs.Calls.{Call, push, register, profile, afterAll, takes, takenFrom, taken}
 
 -- the terms in an array of 128, zero past the last
@@ -37,10 +39,9 @@ pub padded-at : (ts : List ℕ) (j : ℕ) → j < length ts → at (padded ts) j
 padded-at ts j h = List·getD-append ts (replicate (128 - length ts) 0) 0 j h
 
 module _ (m : ℕ) (least : 2 ≤ m) (most : m ≤ maxModulus) where
-  pub sound-for : (ts : List ℕ) → Good m ts → isSound (faultOf (holding m ts)) ≡ true
-  sound-for ts g =
-      ap isSound (of-sound (holding m ts)
-      (record {
+  holding-sound : (ts : List ℕ) → Good m ts → IsSound (holding m ts)
+  holding-sound ts g =
+      record {
         least = least;
         most = most;
         count = g .size;
@@ -49,7 +50,10 @@ module _ (m : ℕ) (least : 2 ≤ m) (most : m ≤ maxModulus) where
             let d : ℕ = j - length ts in
             let e : length ts + d ≡ j = omega arith in
             subst (λ (z : ℕ). at (padded ts) z ≡ 0) e (getD-append-add ts (replicate (128 - length ts) 0) d 0 ∙ getD-replicate (128 - length ts) d 0 0 (omega arith));
-      }))
+      }
+
+  pub sound-for : (ts : List ℕ) → Good m ts → isSound (faultOf (holding m ts)) ≡ true
+  sound-for ts g = is-sound (holding m ts) (holding-sound ts g)
 
   -- one term more, in the array
   stored : (ts : List ℕ) (t : ℕ) → length ts < 128 → set (padded ts) (length ts) t ≡ padded (ts ++ (t ∷ []))
@@ -69,18 +73,23 @@ module _ (m : ℕ) (least : 2 ≤ m) (most : m ≤ maxModulus) where
 
   -- a push does to the sequence what it does to the terms
   push-for : (ts : List ℕ) (t : ℕ) → Good m ts → pushOf (holding m ts) t .sequence ≡ holding m (takes m ts (push t))
-  unfolding pushOf
   push-for ts t g =
       ⊎-elim
       (λ (h : length ts < 128). ⊎-elim
-      (λ (k : t < m). rw (sound-for ts g, ne-eqb (length ts) 128 (λ e. omega arith), lt-leb m t k, lt-ltb t m k, lt-ltb (length ts) 128 h) (more ts t h))
-      (λ (k : m ≤ t). rw (sound-for ts g, ne-eqb (length ts) 128 (λ e. omega arith), le-leb m t k, le-ltb t m k))
+      (λ (k : t < m). rw (lt-ltb t m k, lt-ltb (length ts) 128 h) (kept (push-done (holding m ts) t s h k) ∙ more ts t h))
+      (λ (k : m ≤ t). rw (le-ltb t m k) (kept (push-large (holding m ts) t s h k)))
       (lt-or-le t m))
-      (λ (h : 128 ≤ length ts). let e : length ts ≡ 128 = omega (arith, g .size) in ⊎-elim
-      (λ (k : t < m). rw (sound-for ts g, eq-eqb (length ts) 128 e, lt-ltb t m k, le-ltb (length ts) 128 h))
-      (λ (k : m ≤ t). rw (sound-for ts g, eq-eqb (length ts) 128 e, le-ltb t m k))
+      (λ (h : 128 ≤ length ts). let full = kept (push-full (holding m ts) t s (omega (arith, g .size))) in ⊎-elim
+      (λ (k : t < m). rw (lt-ltb t m k, le-ltb (length ts) 128 h) full)
+      (λ (k : m ≤ t). rw (le-ltb t m k) full)
       (lt-or-le t m))
       (lt-or-le (length ts) 128)
+    where
+      s : IsSound (holding m ts)
+      s = holding-sound ts g
+
+      kept : {x y : Pushed} → x ≡ y → x .sequence ≡ y .sequence
+      kept = ap (λ (x : Pushed). x .sequence)
 
   good-none : Good m []
   good-none = record { size = omega arith; below = λ j h. absurd (not-suc-le-zero h) }
@@ -116,12 +125,10 @@ module _ (m : ℕ) (least : 2 ≤ m) (most : m ≤ maxModulus) where
   after-from (profile c ∷ cs) ts g = after-from cs ts g
 
   pub opens : openOf m .outcome ≡ Done
-  unfolding openOf
-  opens = rw (le-ltb m 2 least, le-ltb maxModulus m most)
+  opens = ap (λ (x : Opened). x .outcome) (open-done m least most)
 
   opened : openOf m .sequence ≡ holding m []
-  unfolding openOf
-  opened = rw (le-ltb m 2 least, le-ltb maxModulus m most)
+  opened = ap (λ (x : Opened). x .sequence) (open-done m least most)
 
   -- the sequence after the whole list
   pub state : (cs : List Call) → afterAll (openOf m .sequence) cs ≡ holding m (taken m cs)

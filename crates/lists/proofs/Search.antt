@@ -88,12 +88,6 @@ first-found n p j h e = go (lt-or-le j (first n p))
     go (inl k) = false-true (sym (first-before n p j k) ∙ e)
     go (inr k) = (k, first-passes n p (omega arith))
 
--- the only number below n that passes is the one found
-pub first-only : (n : ℕ) (p : ℕ → Bool) (j : ℕ) → j < n → p j ≡ true → ((i : ℕ) → i < n → p i ≡ true → i ≡ j) → j ≡ first n p
-first-only n p j h e only =
-    let f = first-found n p j h e in
-    sym (only (first n p) (omega (arith, f .0)) (f .1))
-
 -- where the search went to the end, no number passes
 pub first-none : (n : ℕ) (p : ℕ → Bool) → n ≤ first n p → (j : ℕ) → j < n → p j ≡ false
 first-none n p h j k = first-before n p j (omega arith)

@@ -131,23 +131,3 @@ module _ (q : ℕ) (pos : zero < q) (S : ℕ → ℕ) (k : ℕ) where
         gives = of-pair a b l lead agree deg;
         least = λ cs h. let v = of-coefficients cs h in shortest (v .0) (v .1) (length cs) (v .2) (v .3) (v .4);
       }
-
--- the terms are read below place k only, and only modulo q
-pub least-same : (q : ℕ) (S T : ℕ → ℕ) (k l : ℕ) → ((j : ℕ) → j < k → Cong q (S j) (T j)) → Least q S k l → Least q T k l
-unfolding sumTo
-least-same q S T k l h x =
-    record {
-      some = x .some;
-      many = x .many;
-      small = x .small;
-      gives = move S T h (x .some) (x .gives);
-      least = λ cs g. x .least cs (move T S (λ j m. sy (h j m)) cs g);
-    }
-  where
-    sums : (A B : ℕ → ℕ) → ((j : ℕ) → j < k → Cong q (A j) (B j)) → (n : ℕ) (c : ℕ → ℕ) (j : ℕ) → n ≤ j → j < k
-        → Cong q (sumTo n (λ i. c i * A (j - suc i))) (sumTo n (λ i. c i * B (j - suc i)))
-    sums A B e zero c j a b = rfl
-    sums A B e (suc n) c j a b = add (sums A B e n c j (omega arith) b) (mul rfl (e (j - suc n) (omega arith)))
-
-    move : (A B : ℕ → ℕ) → ((j : ℕ) → j < k → Cong q (A j) (B j)) → (cs : List ℕ) → Gives q A k cs → Gives q B k cs
-    move A B e cs g j a b = tr (sy (e j b)) (tr (g j a b) (sums A B e (length cs) (at cs) j a b))

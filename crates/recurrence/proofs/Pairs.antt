@@ -1,7 +1,7 @@
 -- Pairs of series modulo q: the product by congruence, degrees, and the cross product of two pairs (Reeds and Sloane, lemma 1).
 -- Assumes nothing.
 use mathlib.Core.Path.{_≡_}
-use Prim.Native.Nat.{ℕ, zero, suc, _+_, _*_, _-_, _≤_, _<_}
+use Prim.Native.Nat.{ℕ, zero, suc, _+_, _*_, _≤_, _<_}
 use native.Mathlib.Omega.{arith}
 use Rattle.recurrence.specs.Polynomial.{conv}
 use Rattle.recurrence.proofs.Series.{tail, conv-swap}

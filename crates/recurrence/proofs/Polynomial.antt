@@ -1,9 +1,9 @@
 -- Laws of polynomials as lists: their coefficients, that these stay below q, and L of a pair as the least bound on its degrees.
 -- Assumes nothing.
-use mathlib.Core.Path.{_≡_, refl, sym, ap, ap₂, _∙_, fun-ext}
+use mathlib.Core.Path.{_≡_, refl, ap, _∙_, fun-ext}
 use mathlib.Core.List.{List, [], _∷_}
-use Prim.Native.Nat.{ℕ, zero, suc, _+_, _*_, _-_, _≤_, _<_, max}
-use native.Mathlib.Nat.{mod-lt, le-antisymm}
+use Prim.Native.Nat.{ℕ, zero, suc, _+_, _*_, _≤_, _<_}
+use native.Mathlib.Nat.{mod-lt}
 use native.Mathlib.Omega.{arith}
 use Rattle.lists.specs.Table.{at}
 use Rattle.residue.specs.Congruence.{Cong}
@@ -124,12 +124,3 @@ pub len-least : (q l : ℕ) (w : Pair) → zero < q → Reduced q (w .a) → Red
 unfolding len degree
 len-least q l w pos ra rb x =
     omega (arith, top-least (w .a) (suc l) (λ i h. same-below (ra i) pos (x .top-a i h)), top-least (w .b) l (λ i h. same-below (rb i) pos (x .top-b i h)))
-
--- L depends on the coefficients only, not on how many zeros are written
-pub top-same : (x y : List ℕ) → ((i : ℕ) → at x i ≡ at y i) → top x ≡ top y
-top-same x y h =
-    le-antisymm (top-least x (top y) (λ i l. h i ∙ top-from y i l)) (top-least y (top x) (λ i l. sym (h i) ∙ top-from x i l))
-
-pub len-same : (w v : Pair) → ((i : ℕ) → at (w .a) i ≡ at (v .a) i) → ((i : ℕ) → at (w .b) i ≡ at (v .b) i) → len w ≡ len v
-unfolding len degree
-len-same w v ha hb = ap₂ (λ (m n : ℕ). max (m - 1) n) (top-same (w .a) (v .a) ha) (top-same (w .b) (v .b) hb)

@@ -8,7 +8,8 @@ use native.Mathlib.Nat.{le-refl, mod-lt, mod-eq-of-lt, sub-zero}
 use native.Mathlib.Decide.{decLt, decLe}
 use native.Mathlib.Omega.{arith}
 use lib.Dec.{eqb}
-use lib.ListN.{length}
+use lib.ListN.{length, length-append, List·getD-append}
+use lib.Seq.{getD-append-seam}
 use borrow.Author.Tests.{eq-eqb, eqb-true}
 use Rattle.lists.specs.Table.{at}
 use Rattle.lists.specs.Sum.{sumTo}
@@ -20,28 +21,11 @@ use Rattle.recurrence.specs.Polynomial.{conv}
 use Rattle.recurrence.specs.Running.{cell, generated, firstDifference}
 use Rattle.recurrence.proofs.Series.{summand, conv-sum, conv-comm}
 
--- ---- lists that grow at their end
-
-pub at-front : (xs : List ℕ) (y i : ℕ) → i < length xs → at (xs ++ (y ∷ [])) i ≡ at xs i
-at-front [] y i h = absurd (omega arith)
-at-front (x ∷ xs) y zero h = refl
-at-front (x ∷ xs) y (suc i) h = at-front xs y i (omega arith)
-
-pub at-end : (xs : List ℕ) (y i : ℕ) → i ≡ length xs → at (xs ++ (y ∷ [])) i ≡ y
-at-end [] y zero h = refl
-at-end [] y (suc i) h = absurd (omega arith)
-at-end (x ∷ xs) y zero h = absurd (omega arith)
-at-end (x ∷ xs) y (suc i) h = at-end xs y i (omega arith)
-
-pub length-snoc : (xs : List ℕ) (y : ℕ) → length (xs ++ (y ∷ [])) ≡ suc (length xs)
-length-snoc [] y = refl
-length-snoc (x ∷ xs) y = ap suc (length-snoc xs y)
-
 module _ (m l : ℕ) (a b : List ℕ) where
   pub generated-length : (c : ℕ) → length (generated m l a b c) ≡ c
   unfolding generated
   generated-length zero = refl
-  generated-length (suc c) = length-snoc (generated m l a b c) (cell m l a b (generated m l a b c) c) ∙ ap suc (generated-length c)
+  generated-length (suc c) = length-append (generated m l a b c) (cell m l a b (generated m l a b c) c ∷ []) ∙ omega (arith, generated-length c)
 
   -- a cell is the same however many are run, and comes from the cells before it
   pub generated-at : (c j : ℕ) → j < c → at (generated m l a b c) j ≡ cell m l a b (generated m l a b j) j
@@ -54,10 +38,12 @@ module _ (m l : ℕ) (a b : List ℕ) where
 
       go : Dec (j < c) → (j < c → at cells j ≡ cell m l a b (generated m l a b j) j)
           → at (cells ++ (cell m l a b cells c ∷ [])) j ≡ cell m l a b (generated m l a b j) j
-      go (yes k) ih = at-front cells (cell m l a b cells c) j (omega (arith, generated-length c)) ∙ ih k
+      go (yes k) ih = List·getD-append cells (cell m l a b cells c ∷ []) zero j (omega (arith, generated-length c)) ∙ ih k
       go (no k) ih =
           let e : j ≡ c = omega arith in
-          at-end cells (cell m l a b cells c) j (e ∙ sym (generated-length c)) ∙ ap (λ (z : ℕ). cell m l a b (generated m l a b z) z) (sym e)
+          ap (at (cells ++ (cell m l a b cells c ∷ []))) (e ∙ sym (generated-length c))
+          ∙ getD-append-seam cells (cell m l a b cells c) [] zero
+          ∙ ap (λ (z : ℕ). cell m l a b (generated m l a b z) z) (sym e)
 
   pub generated-prefix : (c d j : ℕ) → j < c → j < d → at (generated m l a b c) j ≡ at (generated m l a b d) j
   generated-prefix c d j h k = generated-at c j h ∙ sym (generated-at d j k)

@@ -6,7 +6,7 @@ use Prim.Native.Nat.{ℕ, zero, suc, _+_, _*_, _-_, _≤_, _<_}
 use native.Mathlib.Nat.{suc-sub-suc, sub-zero}
 use native.Mathlib.Omega.{arith}
 use Rattle.lists.specs.Sum.{sumTo}
-use Rattle.lists.proofs.Sum.{sumTo-head, sumTo-eq, sumTo-cut}
+use Rattle.lists.proofs.Sum.{sumTo-head, sumTo-eq}
 use Rattle.recurrence.specs.Polynomial.{conv}
 
 -- the series divided by x, its first coefficient dropped
@@ -98,8 +98,3 @@ conv-sum f g (suc k) =
   where
     later : sumTo (suc k) (λ i. summand f g (suc k) (suc i)) ≡ sumTo (suc k) (summand (tail f) g k)
     later = sumTo-eq (suc k) (λ i. summand f g (suc k) (suc i)) (summand (tail f) g k) (λ i h. ap (λ (x : ℕ). f (suc i) * g x) (suc-sub-suc k i))
-
--- where f vanishes past l, the first l + 1 summands do
-pub conv-sum-short : (f g : ℕ → ℕ) (k l : ℕ) → l ≤ k → ((i : ℕ) → l < i → f i ≡ zero) → conv f g k ≡ sumTo (suc l) (summand f g k)
-conv-sum-short f g k l h past =
-    conv-sum f g k ∙ sumTo-cut (suc k) (suc l) (summand f g k) (omega arith) (λ i a b. ap (λ (x : ℕ). x * g (k - i)) (past i a) ∙ omega arith)

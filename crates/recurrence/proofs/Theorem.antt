@@ -257,10 +257,6 @@ module _ (p e : ℕ) (P : Prime p) (pos : zero < e) (S : List ℕ) where
       c : ℕ
       c = conv (at S) (at (rowAt p e S η k .a)) k
 
-  -- b follows from a
-  pub b-of-a : (η k i : ℕ) → η < e → i < k → at (rowAt p e S η k .b) i ≡ conv (at S) (at (rowAt p e S η k .a)) i % p ^ e
-  b-of-a η k i h l = same-below (reduced η k h .1 i) (mod-lt _ qp) (tr (sy (shortest η k h .agree i l)) (sy (modulo _)))
-
   -- the law of lengths: a row with u = e keeps its L; any other has the larger of its L and k + 1 less L of row g
   pub length-stays : (η k : ℕ) → η < e → e ≤ u-at p e S η k → L-at p e S η (suc k) ≡ L-at p e S η k
   length-stays η k h l = ap len (next-stays p e S η k h l)

@@ -103,12 +103,6 @@ unit-cancel {q} {t} {x} v h =
     (tr (mul (sy (v .inverts)) (rfl {a = x}))
     (tr (of-eq (let z : t * v .inverse * x ≡ v .inverse * (t * x) = omega arith in z)) (zero-r (v .inverse) h)))
 
--- two numbers with the same complement
-pub complement : {q x y : ℕ} (z : ℕ) → Cong q (x + z) zero → Cong q (y + z) zero → Cong q x y
-complement {q} {x} {y} z hx hy =
-    tr (of-eq (let w : x ≡ x + zero = omega arith in w))
-    (tr (add rfl (sy hy)) (tr (of-eq (let w : x + (y + z) ≡ x + z + y = omega arith in w)) (tr (add hx rfl) (of-eq (omega arith)))))
-
 pub cancel : {q x y : ℕ} → zero < q → Cong q (x + y) x → Cong q y zero
 cancel {q} {x} {y} pos h =
     tr (of-eq (let w : y ≡ y + zero = omega arith in w))

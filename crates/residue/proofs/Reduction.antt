@@ -59,12 +59,9 @@ module _ (x q : ℕ) (pos : zero < q) (small : q < 65536) (low : x < q * q) wher
   unfolding a-of c-of
   product-fits = omega (arith, under, mul-le-mul-right two48 few)
 
--- an update's sum is below q^2, which fits 32 bits
+-- an update's sum
 pub product-below : (q x f y : ℕ) → x < q → f ≤ q → y < q → x + f * y < q * q
 product-below q x f y hx hf hy = omega (arith, mul-le-mul-right y hf, mul-le-mul-left q hy)
-
-pub square-low : (q : ℕ) → q < 65536 → q * q ≤ 4294836225
-square-low q h = mul-le-mul {n₁ = q} {m₁ = q} {n₂ = 65535} {m₂ = 65535} (omega arith) (omega arith)
 
 -- a product of two numbers below 2^16
 pub product-low : (x y : ℕ) → x < 65536 → y < 65536 → x * y ≤ 4294836225

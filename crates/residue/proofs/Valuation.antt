@@ -99,12 +99,6 @@ unfolding cofactor
 cofactor-le f p zero c h l = h
 cofactor-le f p (suc d) c h l = omega (arith, div-le-self (suc d) (p ^ valuation f p (suc d)))
 
--- d is θ p^u exactly, unless it is 0
-pub cofactor-exact : (f p d : ℕ) → 1 < p → zero < d → d < p ^ f → d ≡ cofactor f p d * p ^ valuation f p d
-unfolding cofactor
-cofactor-exact f p zero big pos lt = absurd (omega arith)
-cofactor-exact f p (suc d) big pos lt = valuation-parts f p (suc d) big pos lt .whole
-
 module _ (p e : ℕ) (P : Prime p) (pos : zero < e) where
   pub cofactor-whole : (d : ℕ) → d < p ^ e → Cong (p ^ e) d (cofactor e p d * p ^ valuation e p d)
   unfolding cofactor
@@ -122,14 +116,6 @@ module _ (p e : ℕ) (P : Prime p) (pos : zero < e) where
 
   pub cofactor-inverse : (d : ℕ) → d < p ^ e → Cong (p ^ e) (cofactor e p d * inverse (p ^ e) (cofactor e p d)) 1
   cofactor-inverse d lt = inverse-inverts (p ^ e) (cofactor e p d) (q-pos p e (P .big)) (cofactor-invertible d lt)
-
-  -- u is e only for d = 0
-  pub valuation-pos : (d : ℕ) → d < p ^ e → valuation e p d < e → zero < d
-  valuation-pos zero lt h = absurd (omega (arith, valuation-zero e p))
-  valuation-pos (suc d) lt h = omega arith
-
-  pub valuation-lt : (d : ℕ) → d < p ^ e → zero < d → valuation e p d < e
-  valuation-lt d lt h = valuation-parts e p d (P .big) h lt .below
 
 -- ---- the loop that divides by p
 

@@ -1,20 +1,18 @@
 -- Laws of sequences: what a sound one is, and what opening one, pushing a term and checking a query reply.
 -- Assumes nothing.
-use mathlib.Core.Path.{_≡_, refl, ap, _∙_}
+use mathlib.Core.Path.{_≡_, refl, ap}
 use mathlib.Core.Bool.{Bool, true, false}
 use mathlib.Core.Logic.{_⊎_, inl, inr}
 use mathlib.Core.List.{List}
 use Prim.Native.Nat.{ℕ, zero, _≤_, _<_}
-use native.Mathlib.Nat.{eq-or-lt-of-le, le-refl}
+use native.Mathlib.Nat.{le-refl}
 use native.Mathlib.Omega.{arith}
 use lib.Dec.{ltb, leb, eqb}
-use lib.ListN.{length, set, getD-replicate, length-replicate, length-set}
-use lib.Seq.{getD-set-same, getD-set-other, set-out}
+use lib.ListN.{length}
 use borrow.Author.Tests.{ltb-false, leb-false, eqb-true, lt-ltb, le-ltb, lt-leb, le-leb, eq-eqb, ne-eqb}
 use Rattle.lists.specs.Choice.{pick}
 use Rattle.lists.specs.Table.{at}
 use Rattle.lists.proofs.Search.{false-true, lt-or-le, first-none, none-first, all-at, all-true}
-use Rattle.lists.proofs.Table.{at-past, length-tabulate}
 use Rattle.sequence.specs.declared.Sequence.{Sequence}
 use Rattle.sequence.specs.declared.Refusal.the-variants as R
 use Rattle.sequence.specs.declared.Outcome.the-variants.{Done, Refused}
@@ -77,56 +75,11 @@ is-sound s h = ap isSound (of-sound s h)
 
 -- ---- opening
 
-pub fresh-sound : (m : ℕ) → 2 ≤ m → m ≤ maxModulus → IsSound (fresh m)
-fresh-sound m h k =
-    record {
-      least = h;
-      most = k;
-      count = omega arith;
-      below = λ j l. absurd (omega arith);
-      zeros = λ j l b. getD-replicate maxTerms j zero zero b;
-    }
-
-pub fresh-length : (m : ℕ) → length (fresh m .terms) ≡ maxTerms
-fresh-length m = length-replicate maxTerms zero
-
 pub open-done : (m : ℕ) → 2 ≤ m → m ≤ maxModulus → openOf m ≡ record { sequence = fresh m; outcome = Done }
 unfolding openOf
 open-done m h k = rw (le-ltb _ _ h, le-ltb _ _ k)
 
-pub open-small : (m : ℕ) → m < 2 → openOf m ≡ record { sequence = fresh 0; outcome = Refused R.Modulus }
-unfolding openOf
-open-small m h = rw (lt-ltb _ _ h)
-
-pub open-large : (m : ℕ) → maxModulus < m → openOf m ≡ record { sequence = fresh 0; outcome = Refused R.Modulus }
-unfolding openOf
-open-large m h =
-    let k : 2 ≤ m = omega arith in
-    rw (le-ltb _ _ k, lt-ltb _ _ h)
-
 -- ---- pushing
-
-pub longer-sound : (s : Sequence) (t : ℕ) → IsSound s → s .count < maxTerms → t < s .modulus → IsSound (longer s t)
-longer-sound s t h k b =
-    record {
-      least = h .least;
-      most = h .most;
-      count = omega arith;
-      below = λ j l. small j (eq-or-lt-of-le (let e : j ≤ s .count = omega arith in e));
-      zeros = λ j l m. getD-set-other (s .terms) (s .count) j t zero (λ e. absurd (omega arith)) ∙ h .zeros j (omega arith) m;
-    }
-  where
-    -- a store past the end leaves the zero that is read there
-    last : (s .count < length (s .terms)) ⊎ (length (s .terms) ≤ s .count) → at (set (s .terms) (s .count) t) (s .count) < s .modulus
-    last (inl l) = rw (getD-set-same (s .terms) (s .count) t zero l) b
-    last (inr l) = rw (set-out (s .terms) (s .count) t l, at-past (s .terms) (s .count) l) (omega (arith, h .least))
-
-    small : (j : ℕ) → (j ≡ s .count) ⊎ (j < s .count) → at (set (s .terms) (s .count) t) j < s .modulus
-    small j (inl e) = rw e (last (lt-or-le (s .count) (length (s .terms))))
-    small j (inr l) = rw (getD-set-other (s .terms) (s .count) j t zero (λ e. absurd (omega arith))) (h .below j l)
-
-pub longer-length : (s : Sequence) (t : ℕ) → length (longer s t .terms) ≡ length (s .terms)
-longer-length s t = length-set (s .terms) (s .count) t
 
 pub push-done : (s : Sequence) (t : ℕ) → IsSound s → s .count < maxTerms → t < s .modulus → pushOf s t ≡ record { sequence = longer s t; outcome = Done }
 unfolding pushOf
@@ -140,15 +93,7 @@ pub push-large : (s : Sequence) (t : ℕ) → IsSound s → s .count < maxTerms 
 unfolding pushOf
 push-large s t h k b = rw (is-sound s h, ne-eqb (s .count) maxTerms (λ e. omega arith), le-leb _ _ b)
 
-pub push-unsound : (s : Sequence) (t : ℕ) → isSound (faultOf s) ≡ false → pushOf s t ≡ record { sequence = s; outcome = Refused R.Sequence }
-unfolding pushOf
-push-unsound s t h = rw h
-
 -- ---- queries
-
-pub length-terms : (query : List ℕ) → length (sequenceOf query .terms) ≡ maxTerms
-unfolding sequenceOf
-length-terms query = length-tabulate maxTerms _
 
 -- only of no fault is nothing refused
 done-sound : (f : Fault) → refusalOf f ≡ Done → isSound f ≡ true
@@ -165,7 +110,3 @@ check-done query h = go (eqb (length query) queryBytes) refl h
     go : (b : Bool) → eqb (length query) queryBytes ≡ b → pick b (refusalOf (faultOf (sequenceOf query))) (Refused R.Buffer) ≡ Done → (length query ≡ queryBytes) × IsSound (sequenceOf query)
     go true e h = (eqb-true _ _ e, sound-of (sequenceOf query) (done-sound (faultOf (sequenceOf query)) h))
     go false e h = let z : _≡_ {A = Bool} false true = cc in false-true z
-
-pub done-check : (query : List ℕ) → length query ≡ queryBytes → IsSound (sequenceOf query) → checkOf query ≡ Done
-unfolding checkOf
-done-check query e h = rw (eq-eqb _ _ e, of-sound (sequenceOf query) h)

@@ -3,7 +3,7 @@
 use mathlib.Core.Path.{_≡_, refl, sym, ap, ap₂, _∙_}
 use mathlib.Core.List.{List}
 use Prim.Native.Nat.{ℕ, zero, suc, _+_, _*_, _-_, _%_, _≤_, _<_}
-use native.Mathlib.Nat.{le-refl, mul-le-mul, mod-eq-of-lt}
+use native.Mathlib.Nat.{le-refl, mod-eq-of-lt}
 use native.Mathlib.Decide.{ℕ-discrete, decLe}
 use native.Mathlib.Omega.{arith}
 use lib.ListN.{length, set, length-set}
@@ -11,6 +11,7 @@ use lib.Seq.{getD-set-same, getD-set-other}
 use Rattle.lists.specs.Sum.{sumTo}
 use Rattle.lists.specs.Table.{at}
 use Rattle.lists.proofs.Sum.{sumTo-cut, sumTo-le}
+use Rattle.residue.proofs.Reduction.{product-low}
 use Rattle.recurrence.specs.Polynomial.{conv, up}
 use Rattle.recurrence.proofs.Series.{summand, conv-comm, conv-sum, shift-below, shift-from}
 use Rattle.recurrence.proofs.Polynomial.{at-up}
@@ -27,8 +28,7 @@ sum-stop f g k l h z =
 
 module _ (f g : ℕ → ℕ) (k : ℕ) (hf : (i : ℕ) → i < 129 → f i < 65536) (hg : (i : ℕ) → i < 128 → g i < 65536) (h : k < 128) where
   pub summand-low : (i : ℕ) → i ≤ k → summand f g k i ≤ 4294836225
-  summand-low i l =
-      mul-le-mul {n₁ = f i} {m₁ = g (k - i)} {n₂ = 65535} {m₂ = 65535} (omega (arith, hf i (omega arith))) (omega (arith, hg (k - i) (omega arith)))
+  summand-low i l = product-low (f i) (g (k - i)) (hf i (omega arith)) (hg (k - i) (omega arith))
 
   pub sum-low : (i : ℕ) → i ≤ suc k → sumTo i (summand f g k) ≤ i * 4294836225
   sum-low i l = sumTo-le i 4294836225 (summand f g k) (λ j m. summand-low j (omega arith))

@@ -1,7 +1,7 @@
 // The steps at one prime power q = p^e (Reeds and Sloane, section 4), for q below 65,536.
 //
 // Of each row only a is kept. The theorems of `recurrence` are the reason: a discrepancy needs no b (`d-of-a`), lengths follow a law in
-// which no degree occurs (`length-stays`, `length-kept`, `length-grows`), and b follows from a (`b-of-a`).
+// which no degree occurs (`length-stays`, `length-kept`, `length-grows`), and b follows from a (`generates` of `register-right`).
 ghost use mathlib.Core.Path.{_≡_};
 ghost use mathlib.Core.List.{[]};
 ghost use Prim.Native.Nat.{ℕ, suc, _+_, _-_, _*_, _%_, _^_, _≤_, _<_};

@@ -8,7 +8,7 @@ use native.Mathlib.Omega.{arith}
 use lib.ListN.{getD}
 use borrow.Author.Needs.{needs}
 use Rattle.lists.specs.Table.{at}
-use Rattle.residue.proofs.Reduction.{product-below, square-low}
+use Rattle.residue.proofs.Reduction.{product-below, product-low}
 use Rattle.steps.specs.Passes.{Added}
 use Rattle.steps.proofs.change.Statement.{statement}
 use Rattle.steps.proofs.change.Tie as tie
@@ -43,7 +43,7 @@ mul-reduce-2 c =
     let g = z .args .ring .e - 1 - z .args .u in
     let some : zero < at (z .args .len .now) g = omega arith in
     let lt : g < z .args .ring .e = omega arith in
-    omega (arith, product-below (z .args .ring .q) zero (z .args .t) (at (z .args .mult .now) g) (z .pre .3) (z .pre .5) (z .pre .4 .mults g lt some), square-low (z .args .ring .q) (z .pre .2))
+    omega (arith, product-below (z .args .ring .q) zero (z .args .t) (at (z .args .mult .now) g) (z .pre .3) (z .pre .5) (z .pre .4 .mults g lt some), product-low (z .args .ring .q) (z .args .ring .q) (z .pre .2) (z .pre .2))
 
 reduce-requires : tie.Need-reduce-requires
 reduce-requires c κs =

@@ -5,7 +5,7 @@ use Prim.Native.Nat.{ℕ, _≤_, _<_, _+_, _*_, _-_}
 use native.Mathlib.Nat.{le-refl}
 use native.Mathlib.Omega.{arith}
 use Rattle.lists.specs.Table.{at}
-use Rattle.residue.proofs.Reduction.{product-below, square-low}
+use Rattle.residue.proofs.Reduction.{product-below, product-low}
 use Rattle.steps.proofs.Cells.{Adding, add-start, add-next, add-done}
 use Rattle.steps.proofs.combine.Statement.{statement}
 use Rattle.steps.proofs.combine.Tie as tie
@@ -51,12 +51,12 @@ below c =
 mul-reduce-3 : tie.Need-mul-reduce-3 Inv-loop μ-loop
 mul-reduce-3 c =
     let z = c .before .before .before .before in
-    omega (arith, below c, square-low (z .args .ring .q) (z .pre .3))
+    omega (arith, below c, product-low (z .args .ring .q) (z .args .ring .q) (z .pre .3) (z .pre .3))
 
 add-reduce : tie.Need-add-reduce Inv-loop μ-loop
 add-reduce c =
     let z = c .before .before .before .before in
-    omega (arith, below c, square-low (z .args .ring .q) (z .pre .3))
+    omega (arith, below c, product-low (z .args .ring .q) (z .args .ring .q) (z .pre .3) (z .pre .3))
 
 reduce-requires : tie.Need-reduce-requires Inv-loop μ-loop
 reduce-requires c κs =

@@ -1,7 +1,7 @@
 -- `steps::rows` meets its contract: before step k the arrays hold the state before step k.
 -- Assumes nothing.
 use mathlib.Core.Path.{_≡_, sym}
-use Prim.Native.Nat.{zero, _≤_, _<_, _-_}
+use Prim.Native.Nat.{zero, _≤_, _-_}
 use native.Mathlib.Numerals.{add-one}
 use native.Mathlib.Omega.{arith}
 use lib.ListN.{replicate}

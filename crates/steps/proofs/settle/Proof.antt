@@ -2,9 +2,10 @@
 -- Assumes nothing.
 use mathlib.Core.Path.{_≡_, refl, sym, ap₂, subst}
 use Prim.Native.Nat.{ℕ, _≤_, _<_, _*_, _-_, _%_, _^_}
-use native.Mathlib.Nat.{le-refl, mul-le-mul, pow-le-pow-right}
+use native.Mathlib.Nat.{le-refl, pow-le-pow-right}
 use native.Mathlib.Omega.{arith}
 use Rattle.lists.specs.Table.{at}
+use Rattle.residue.proofs.Reduction.{product-low}
 use Rattle.residue.proofs.Units.{inverse-lt, coprime-invertible}
 use Rattle.steps.specs.Passes.{Settling}
 use Rattle.steps.proofs.Passes.{settle-skip, settle-next}
@@ -110,11 +111,8 @@ add-reach c = omega arith
 sub-reach : tie.Need-sub-reach Inv-loop μ-loop
 sub-reach c =
     let z = c .before .before .before .before .before .before .before .before .before in
-    let a = z .args in
     let l = c .before .before .before .before .before .before .before .before .loop in
-    let g = z .pre .6 (l .i) (omega arith) in
-    let same : at (l .len) (l .i) ≡ at (a .len .now) (l .i) = l .inv .0 .todo-len (l .i) (le-refl (l .i)) in
-    g .most
+    z .pre .6 (l .i) (omega arith) .most
 
 mul-reach : tie.Need-mul-reach Inv-loop μ-loop
 mul-reach c = omega arith
@@ -163,8 +161,6 @@ power-requires c κs =
     let z = c .before .before .before .before .before .before .before .before .before .before .before .before .before in
     let a = z .args in
     let l = c .before .before .before .before .before .before .before .before .before .before .before .before .loop in
-    let g = z .pre .6 (l .i) (omega arith) in
-    let same : at (l .len) (l .i) ≡ at (a .len .now) (l .i) = l .inv .0 .todo-len (l .i) (le-refl (l .i)) in
     let x = a .ring .e - 1 - l .i - at (a .us .now) (a .ring .e - 1 - at (a .us .now) (l .i)) in
     (z .pre .4, omega (arith, pow-le-pow-right {n = a .ring .p} (z .pre .4) {i = x} {j = a .ring .e} (omega arith)))
 
@@ -180,9 +176,7 @@ mul-mult c =
     let up : a .ring .p ^ x ≤ a .ring .p ^ a .ring .e = pow-le-pow-right {n = a .ring .p} (z .pre .4) {i = x} {j = a .ring .e} (omega arith) in
     let low : c .before .before .before .inverse .result < a .ring .q
     = subst (λ (y : ℕ). y < a .ring .q) (sym (c .before .before .before .inverse .ensures)) (inverse-lt (a .ring .q) t (z .pre .3) (coprime-invertible t (a .ring .q) (g .some-unit (omega arith)) (z .pre .3) (g .coprime (omega arith)))) in
-    let term : c .before .before .before .inverse .result * c .power .result ≤ 65535 * 65535
-    = mul-le-mul {n₁ = c .before .before .before .inverse .result} {m₁ = c .power .result} {n₂ = 65535} {m₂ = 65535} (omega arith) (omega (arith, c .power .ensures)) in
-    omega arith
+    omega (arith, product-low (c .before .before .before .inverse .result) (c .power .result) (omega arith) (omega (arith, c .power .ensures)))
 
 rem-mult : tie.Need-rem-mult Inv-loop μ-loop
 rem-mult c = omega arith

@@ -20,14 +20,12 @@ abbrev μ-loop : tie.MeasureT-loop
 
 loop-holds : tie.Need-loop-holds Inv-loop μ-loop
 loop-holds c =
-    let z = c in
-    let a = z .args in
-    gathered-start (a .modulus) (a .terms .now) (a .count) (a .a .now) (a .lengths .now) (z .pre .0) (z .pre .2) (z .pre .4) (z .pre .5) (z .pre .6) (z .pre .7)
+    let a = c .args in
+    gathered-start (a .modulus) (a .terms .now) (a .count) (a .a .now) (a .lengths .now) (c .pre .0) (c .pre .2) (c .pre .4) (c .pre .5) (c .pre .6) (c .pre .7)
 
 split-requires : tie.Need-split-requires Inv-loop μ-loop
 split-requires c κs =
     let z = c .before .before in
-    let a = z .args in
     let l = c .before .loop in
     let big : 1 < l .rest = c .loop-test .taken in
     (big, omega (arith, rest-most (l .inv) big, z .pre .1))
@@ -35,7 +33,6 @@ split-requires c κs =
 scale-requires : tie.Need-scale-requires Inv-loop μ-loop
 scale-requires c κs =
     let z = c .before .before .before in
-    let a = z .args in
     let l = c .before .before .loop in
     let big : 1 < l .rest = c .before .loop-test .taken in
     let same = c .split .ensures .2 in

@@ -25,8 +25,6 @@ loop-holds c = (record { long = length-replicate 128 zero; below = λ j h. absur
 coefficient-requires : tie.Need-coefficient-requires Inv-loop μ-loop
 coefficient-requires c κs =
     let z = c .before .before in
-    let a = z .args in
-    let l = c .before .loop in
     (omega arith, omega arith, z .pre .1, z .pre .2, z .pre .3, λ j h k. absurd (omega arith))
 
 mul-b : tie.Need-mul-b Inv-loop μ-loop
