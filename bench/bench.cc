@@ -22,9 +22,11 @@ void plain_register(uint32_t m, const uint32_t *s, int n, uint32_t *a, uint32_t 
 void tricks_register(uint32_t m, const uint32_t *s, int n, uint32_t *a, uint32_t *b, uint32_t *lens);
 }
 
-static const int BATCH = 16;
-static uint32_t terms[BATCH][128];
-static uint8_t queries[BATCH][260];
+// A round times a batch of calls of each entry, all on the same sequences. Each round has other sequences and another order of the
+// entries: a batch that was just run teaches the processor its branches, and whoever always came next would look faster.
+static const int BATCH = 16, POOL = 1024;
+static uint32_t terms[POOL][128];
+static uint8_t queries[POOL][260];
 static uint32_t a[129], b[128], lens[129], a2[129], b2[128], lens2[129];
 static uint8_t record[776];
 
@@ -48,12 +50,16 @@ struct Entry {
 // Medians in microseconds for one call of each.
 static std::vector<double> measure(const std::vector<Entry> &entries, int rounds) {
     std::vector<std::vector<double>> times(entries.size());
-    for (int r = 0; r < rounds; r++)
-        for (size_t i = 0; i < entries.size(); i++) {
+    std::vector<size_t> order(entries.size());
+    for (size_t i = 0; i < order.size(); i++) order[i] = i;
+    for (int r = 0; r < rounds; r++) {
+        for (size_t i = order.size(); i > 1; i--) std::swap(order[i - 1], order[below((uint32_t)i)]);
+        for (size_t i : order) {
             double start = now();
-            for (int j = 0; j < BATCH; j++) entries[i].run(j);
+            for (int j = 0; j < BATCH; j++) entries[i].run((r * BATCH + j) % POOL);
             times[i].push_back(1e6 * (now() - start) / BATCH);
         }
+    }
     std::vector<double> medians;
     for (auto &t : times) {
         std::sort(t.begin(), t.end());
@@ -63,7 +69,7 @@ static std::vector<double> measure(const std::vector<Entry> &entries, int rounds
 }
 
 static void prepare(uint32_t m, int n) {
-    for (int j = 0; j < BATCH; j++) {
+    for (int j = 0; j < POOL; j++) {
         memset(queries[j], 0, 260);
         uint32_t cells[130] = {m, (uint32_t)n};
         for (int i = 0; i < 128; i++) terms[j][i] = i < n ? below(m) : 0, cells[2 + i] = terms[j][i];
@@ -89,14 +95,14 @@ static std::vector<Entry> ours(uint32_t m, int n) {
 }
 
 static void primes() {
-    printf("prime moduli, 128 random terms: register / NTL, register / FLINT, record / register, register / steps without b, us for a register\n");
+    printf("prime moduli, 128 random terms: register / NTL, register / FLINT, record / register, register / steps without b, record / steps, us for a register\n");
     for (uint32_t p : {2u, 7u, 4093u}) {
         prepare(p, 128);
         if (!agree(p, 128)) printf("%u: DIFFER\n", p);
         NTL::zz_p::init(p);
-        static NTL::vec_zz_p v[BATCH];
-        static mp_limb_t points[BATCH][128];
-        for (int j = 0; j < BATCH; j++) {
+        static NTL::vec_zz_p v[POOL];
+        static mp_limb_t points[POOL][128];
+        for (int j = 0; j < POOL; j++) {
             v[j].SetLength(128);
             for (int i = 0; i < 128; i++) v[j][i] = (long)terms[j][i], points[j][i] = terms[j][i];
         }
@@ -111,8 +117,8 @@ static void primes() {
                      }});
         e.push_back({"record", [](int j) { timing_record(queries[j], 260, record, 776); }});
         e.push_back({"steps", [=](int j) { timing_steps(terms[j], 128, p, 1, p, a, lens); }});
-        auto t = measure(e, 101);
-        printf("%6u  %.2f  %.2f  %.2f  %.2f  %.1f\n", p, t[0] / t[3], t[0] / t[4], t[5] / t[0], t[0] / t[6], t[0]);
+        auto t = measure(e, 1001);
+        printf("%6u  %.2f  %.2f  %.2f  %.2f  %.2f  %.1f\n", p, t[0] / t[3], t[0] / t[4], t[5] / t[0], t[0] / t[6], t[5] / t[6], t[0]);
     }
 }
 
@@ -121,7 +127,7 @@ static void composites() {
     for (uint32_t m : {2u, 7u, 4093u, 2048u, 2187u, 3125u, 4095u, 2310u}) {
         prepare(m, 128);
         if (!agree(m, 128)) printf("%u: DIFFER\n", m);
-        auto t = measure(ours(m, 128), 51);
+        auto t = measure(ours(m, 128), 301);
         printf("%6u  %.2f  %.2f  %.1f\n", m, t[0] / t[2], t[0] / t[1], t[0]);
     }
 }

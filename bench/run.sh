@@ -5,7 +5,7 @@ cd "$(dirname "$0")/.."
 work=$(mktemp -d)
 trap 'rm -rf "$work"' EXIT
 [ -e /usr/include/NTL/lzz_pX.h ] && [ -e /usr/include/flint/flint.h ] || { apt-get update -qq && apt-get install -y -qq libntl-dev libflint-dev libgmp-dev; }
-compiler=$(command -v clang || command -v gcc)
+compiler=${CC:-$(command -v clang || command -v gcc)}
 rt staticlib timing
 "$compiler" -O3 -std=c11 -c bench/baseline.c -o "$work/plain.o"
 "$compiler" -O3 -std=c11 -DTRICKS -c bench/baseline.c -o "$work/tricks.o"
