@@ -1,6 +1,7 @@
 -- `diverthrone_look_up` meets its contract: each reply goes to its number. A record that is found is in the catalogue, so its place fits.
 -- Assumes nothing.
 use mathlib.Core.Path.{sym, ap, _∙_}
+use Prim.Native.Nat.{_+_, _*_, _<_}
 use native.Mathlib.Omega.{arith}
 use borrow.Author.Needs.{needs}
 use Rattle.catalogue.specs.declared.LookedUp.{LookedUp}
@@ -19,19 +20,19 @@ enum-told c = search needs
 enum-known-t : tie.Need-enum-known-t
 enum-known-t c = search needs
 
-add-result : tie.Need-add-result
-add-result c =
-    let m = c .before .before .before .before .before in
+-- a catalogue of 2^64 bytes or more cannot be lent, and a record has 776
+place : (c : tie.After-t) → 256 * (c .t .given .0 .0 + 1) < 18446744073709551616
+place c =
+    let m = c .before .before .before .before in
     let s = m .before .before .before .before .before in
     let v = s .args in
-    omega (arith, found-below (v .query .now) (v .catalogue .now) (v .out .now) (c .before .t .given .0 .0) (sym (m .look-up .ensures .0) ∙ c .before .t .given .1), s .good .1 .0 .1)
+    omega (arith, found-below (v .query .now) (v .catalogue .now) (v .out .now) (c .t .given .0 .0) (sym (m .look-up .ensures .0) ∙ c .t .given .1), s .good .1 .0 .1)
+
+add-result : tie.Need-add-result
+add-result c = omega (arith, place (c .before))
 
 mul-result : tie.Need-mul-result
-mul-result c =
-    let m = c .before .before .before .before .before in
-    let s = m .before .before .before .before .before in
-    let v = s .args in
-    omega (arith, found-below (v .query .now) (v .catalogue .now) (v .out .now) (c .before .t .given .0 .0) (sym (m .look-up .ensures .0) ∙ c .before .t .given .1), s .good .1 .0 .1)
+mul-result c = omega (arith, place (c .before))
 
 enum-known-t-2 : tie.Need-enum-known-t-2
 enum-known-t-2 c = search needs

@@ -13,6 +13,10 @@ use Rattle.steps.specs.Passes.{Added}
 use Rattle.steps.proofs.change.Statement.{statement}
 use Rattle.steps.proofs.change.Tie as tie
 
+-- row g
+abbrev asked : tie.Start → ℕ
+asked z = z .args .ring .e - 1 - z .args .u
+
 returns : tie.Need-returns
 returns c = search needs
 
@@ -37,26 +41,25 @@ mul-reduce c = search needs
 element-copy-out-reduce : tie.Need-element-copy-out-reduce
 element-copy-out-reduce c = search needs
 
+-- theta times the multiplier of row g
+below : (z : tie.Start) → asked z < z .args .ring .e → zero < at (z .args .len .now) (asked z) → z .args .t * at (z .args .mult .now) (asked z) < z .args .ring .q * z .args .ring .q
+below z lt some =
+    omega (arith, product-below (z .args .ring .q) zero (z .args .t) (at (z .args .mult .now) (asked z)) (z .pre .3) (z .pre .5) (z .pre .4 .mults (asked z) lt some))
+
 mul-reduce-2 : tie.Need-mul-reduce-2
 mul-reduce-2 c =
     let z = c .before .before .before .before .before .before in
-    let g = z .args .ring .e - 1 - z .args .u in
-    let some : zero < at (z .args .len .now) g = omega arith in
-    let lt : g < z .args .ring .e = omega arith in
-    omega (arith, product-below (z .args .ring .q) zero (z .args .t) (at (z .args .mult .now) g) (z .pre .3) (z .pre .5) (z .pre .4 .mults g lt some), product-low (z .args .ring .q) (z .args .ring .q) (z .pre .2) (z .pre .2))
+    omega (arith, below z (omega arith) (omega arith), product-low (z .args .ring .q) (z .args .ring .q) (z .pre .2) (z .pre .2))
 
 reduce-requires : tie.Need-reduce-requires
 reduce-requires c κs =
     let z = c .before .before .before .before .before .before in
-    let g = z .args .ring .e - 1 - z .args .u in
-    let some : zero < at (z .args .len .now) g = omega arith in
-    let lt : g < z .args .ring .e = omega arith in
-    (z .pre .3, z .pre .2, omega (arith, product-below (z .args .ring .q) zero (z .args .t) (at (z .args .mult .now) g) (z .pre .3) (z .pre .5) (z .pre .4 .mults g lt some)), z .pre .8)
+    (z .pre .3, z .pre .2, below z (omega arith) (omega arith), z .pre .8)
 
 sub-f : tie.Need-sub-f
 sub-f c =
     let z = c .before .before .before .before .before .before .before .before in
-    omega (arith, c .before .reduce .ensures, mod-lt (z .args .t * at (z .args .mult .now) (z .args .ring .e - 1 - z .args .u)) {m = z .args .ring .q} (z .pre .3))
+    omega (arith, c .before .reduce .ensures, mod-lt (z .args .t * at (z .args .mult .now) (asked z)) {m = z .args .ring .q} (z .pre .3))
 
 mul-combine : tie.Need-mul-combine
 mul-combine c = search needs
@@ -73,10 +76,7 @@ element-copy-out-combine c = search needs
 sub-combine : tie.Need-sub-combine
 sub-combine c =
     let z = c .before .before .before .before .before .before .before .before .before .before .before in
-    let g = z .args .ring .e - 1 - z .args .u in
-    let some : zero < at (z .args .len .now) g = omega arith in
-    let lt : g < z .args .ring .e = omega arith in
-    omega (arith, z .pre .4 .early g lt some)
+    omega (arith, z .pre .4 .early (asked z) (omega arith) (omega arith))
 
 mul-combine-3 : tie.Need-mul-combine-3
 mul-combine-3 c = search needs
@@ -87,15 +87,12 @@ element-copy-out-combine-2 c = search needs
 add-combine : tie.Need-add-combine
 add-combine c =
     let z = c .before .before .before .before .before .before .before .before .before .before .before .before in
-    let g = z .args .ring .e - 1 - z .args .u in
-    let some : zero < at (z .args .len .now) g = omega arith in
-    let lt : g < z .args .ring .e = omega arith in
-    omega (arith, z .pre .4 .early g lt some, z .pre .4 .short g lt some)
+    omega (arith, z .pre .4 .early (asked z) (omega arith) (omega arith), z .pre .4 .short (asked z) (omega arith) (omega arith))
 
 combine-requires : tie.Need-combine-requires
 combine-requires c κs =
     let z = c .before .before .before .before .before .before .before .before .before .before .before .before in
-    let g = z .args .ring .e - 1 - z .args .u in
+    let g = asked z in
     let some : zero < at (z .args .len .now) g = omega arith in
     let lt : g < z .args .ring .e = omega arith in
     (z .pre .6, omega (arith, z .pre .4 .early g lt some, z .pre .4 .short g lt some), z .pre .3, z .pre .2, omega arith, z .pre .7, z .pre .4 .low g lt some, z .pre .4 .clear g lt some, z .pre .8)

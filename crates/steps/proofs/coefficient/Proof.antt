@@ -46,10 +46,7 @@ cast-sum-2 c = omega (arith, c .before .before .before .before .pre .4 (c .befor
 mul-sum-3 : tie.Need-mul-sum-3 Inv-loop μ-loop
 mul-sum-3 c =
     let z = c .before .before .before .before in
-    let i = c .before .before .before .loop .i in
-    let f = at (z .args .a .now) in
-    let g = at (z .args .s .now) in
-    omega (arith, summand-low f g (z .args .k) (z .pre .3) (z .pre .4) (z .pre .1) i (omega arith))
+    omega (arith, summand-low (at (z .args .a .now)) (at (z .args .s .now)) (z .args .k) (z .pre .3) (z .pre .4) (z .pre .1) (c .before .before .before .loop .i) (omega arith))
 
 add-sum : tie.Need-add-sum Inv-loop μ-loop
 add-sum c =
