@@ -23,16 +23,17 @@ use Rattle.recurrence.specs.Polynomial.{conv}
 use Rattle.recurrence.specs.Running.{cell, generated, firstDifference}
 use Rattle.recurrence.proofs.Series.{summand, conv-sum, conv-comm}
 use Rattle.recurrence.proofs.Running.{generated-length, generated-at, cell-same, cell-lt}
+use Rattle.sequence.specs.Limits.{maxCells, maxTerms}
 use Rattle.candidate.specs.declared.Flaw.the-variants as F
 use Rattle.candidate.specs.Rules.{allBelow, zeroPast, flawOf, isFine}
 
 -- A well-formed candidate of length l modulo m.
 pub record IsFine (m l : ℕ) (a b : List ℕ) : Type 0 where
-  pub short : l ≤ 128
-  pub below-a : (i : ℕ) → i < 129 → at a i < m
-  pub below-b : (i : ℕ) → i < 128 → at b i < m
-  pub past-a : (i : ℕ) → l < i → i < 129 → at a i ≡ zero
-  pub past-b : (i : ℕ) → l ≤ i → i < 128 → at b i ≡ zero
+  pub short : l ≤ maxTerms
+  pub below-a : (i : ℕ) → i < maxCells → at a i < m
+  pub below-b : (i : ℕ) → i < maxTerms → at b i < m
+  pub past-a : (i : ℕ) → l < i → i < maxCells → at a i ≡ zero
+  pub past-b : (i : ℕ) → l ≤ i → i < maxTerms → at b i ≡ zero
   pub lead : at a 0 ≡ 1
 
 zero-past : (k n : ℕ) (xs : List ℕ) → ((i : ℕ) → k ≤ i → i < n → at xs i ≡ zero) → zeroPast k n xs ≡ true
@@ -46,11 +47,11 @@ pub of-fine : (m l : ℕ) (a b : List ℕ) → IsFine m l a b → flawOf m l a b
 unfolding flawOf
 of-fine m l a b f =
     rw (
-      le-ltb 128 l (f .short),
-      all-true 129 (λ i. ltb (at a i) m) (λ i h. lt-ltb (at a i) m (f .below-a i h)),
-      all-true 128 (λ i. ltb (at b i) m) (λ i h. lt-ltb (at b i) m (f .below-b i h)),
-      zero-past (l + 1) 129 a (λ i h k. f .past-a i (omega arith) k),
-      zero-past l 128 b (f .past-b),
+      le-ltb maxTerms l (f .short),
+      all-true maxCells (λ i. ltb (at a i) m) (λ i h. lt-ltb (at a i) m (f .below-a i h)),
+      all-true maxTerms (λ i. ltb (at b i) m) (λ i h. lt-ltb (at b i) m (f .below-b i h)),
+      zero-past (l + 1) maxCells a (λ i h k. f .past-a i (omega arith) k),
+      zero-past l maxTerms b (f .past-b),
       eq-eqb (at a 0) 1 (f .lead),
     )
 
@@ -58,13 +59,13 @@ of-fine m l a b f =
 pub fine-of : (m l : ℕ) (a b : List ℕ) → isFine (flawOf m l a b) ≡ true → IsFine m l a b
 unfolding flawOf
 fine-of m l a b h =
-    go (ltb 128 l) (allBelow m 129 a) (allBelow m 128 b) (zeroPast (l + 1) 129 a) (zeroPast l 128 b) (eqb (at a 0) 1) refl refl refl refl refl refl h
+    go (ltb maxTerms l) (allBelow m maxCells a) (allBelow m maxTerms b) (zeroPast (l + 1) maxCells a) (zeroPast l maxTerms b) (eqb (at a 0) 1) refl refl refl refl refl refl h
   where
     past : (k n : ℕ) (xs : List ℕ) → zeroPast k n xs ≡ true → (i : ℕ) → k ≤ i → i < n → at xs i ≡ zero
     past k n xs z i x y = eqb-true _ _ (rw (le-ltb i k x) at (all-at n _ z i y))
 
     go :
-        (s x y u v w : Bool) → ltb 128 l ≡ s → allBelow m 129 a ≡ x → allBelow m 128 b ≡ y → zeroPast (l + 1) 129 a ≡ u → zeroPast l 128 b ≡ v → eqb (at a 0) 1 ≡ w
+        (s x y u v w : Bool) → ltb maxTerms l ≡ s → allBelow m maxCells a ≡ x → allBelow m maxTerms b ≡ y → zeroPast (l + 1) maxCells a ≡ u → zeroPast l maxTerms b ≡ v → eqb (at a 0) 1 ≡ w
         → isFine (pick s F.TooLong (pick x (pick y (pick u (pick v (pick w F.Fine F.Lead) F.Coefficient) F.Coefficient) F.Coefficient) F.Coefficient)) ≡ true → IsFine m l a b
     go true x y u v w s' x' y' u' v' w' h = false-true h
     go false false y u v w s' x' y' u' v' w' h = false-true h
@@ -75,10 +76,10 @@ fine-of m l a b h =
     go false true true true true true s' x' y' u' v' w' h =
         record {
           short = ltb-false _ _ s';
-          below-a = λ i k. ltb-true _ _ (all-at 129 _ x' i k);
-          below-b = λ i k. ltb-true _ _ (all-at 128 _ y' i k);
-          past-a = λ i k n. past (l + 1) 129 a u' i (omega arith) n;
-          past-b = past l 128 b v';
+          below-a = λ i k. ltb-true _ _ (all-at maxCells _ x' i k);
+          below-b = λ i k. ltb-true _ _ (all-at maxTerms _ y' i k);
+          past-a = λ i k n. past (l + 1) maxCells a u' i (omega arith) n;
+          past-b = past l maxTerms b v';
           lead = eqb-true _ _ w';
         }
 
@@ -106,8 +107,8 @@ summed-more {f} {i} {sum} x s e h = record { is = ap₂ _+_ (s .is) e ∙ sym (s
 abbrev pub places : List ℕ → List ℕ → ℕ → ℕ → ℕ
 places S a j = summand (at a) (at S) j
 
-pub is-place : (S a : List ℕ) (j i x r : ℕ) → i < 129 → x ≡ cellAt a i → r ≡ x * at S (j - i) → r ≡ places S (cellsFrom a 0 129) j i
-is-place S a j i x r h e p = p ∙ ap (λ (z : ℕ). z * at S (j - i)) (e ∙ sym (at-cells a 129 i h))
+pub is-place : (S a : List ℕ) (j i x r : ℕ) → i < maxCells → x ≡ cellAt a i → r ≡ x * at S (j - i) → r ≡ places S (cellsFrom a 0 maxCells) j i
+is-place S a j i x r h e p = p ∙ ap (λ (z : ℕ). z * at S (j - i)) (e ∙ sym (at-cells a maxCells i h))
 
 -- the test of place j, once its products are summed
 module _ (S a b : List ℕ) (m j i sum x : ℕ) (s : Summed (places S a j) i sum) (past : j < i) (within : i ≤ j + 1) (e : x ≡ at b j) where
@@ -129,10 +130,10 @@ abbrev pub backs : List ℕ → List ℕ → ℕ → ℕ → ℕ
 backs a cells j i = at a (suc i) * at cells (j - suc i)
 
 pub is-back :
-    (a out : List ℕ) (j i x y r : ℕ) → i < j → i < 128 → x ≡ cellAt a (i + 1) → y ≡ cellAt out (j - (i + 1)) → r ≡ x * y
-    → r ≡ backs (cellsFrom a 0 129) (cellsFrom out 0 j) j i
+    (a out : List ℕ) (j i x y r : ℕ) → i < j → i < maxTerms → x ≡ cellAt a (i + 1) → y ≡ cellAt out (j - (i + 1)) → r ≡ x * y
+    → r ≡ backs (cellsFrom a 0 maxCells) (cellsFrom out 0 j) j i
 is-back a out j i x y r h k e f p =
-    p ∙ ap₂ _*_ (e ∙ sym (at-cells a 129 (i + 1) (omega arith)) ∙ ap (at (cellsFrom a 0 129)) (add-one i))
+    p ∙ ap₂ _*_ (e ∙ sym (at-cells a maxCells (i + 1) (omega arith)) ∙ ap (at (cellsFrom a 0 maxCells)) (add-one i))
     (f ∙ sym (at-cells out j (j - (i + 1)) (omega arith)) ∙ ap (λ (z : ℕ). at (cellsFrom out 0 j) (j - z)) (add-one i))
 
 pub is-next :

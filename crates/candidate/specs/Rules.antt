@@ -14,7 +14,7 @@ use Rattle.sequence.specs.declared.Sequence.{Sequence}
 use Rattle.sequence.specs.declared.Refusal.the-variants as R
 use Rattle.sequence.specs.declared.Outcome.{Outcome}
 use Rattle.sequence.specs.declared.Outcome.the-variants.{Done, Refused}
-use Rattle.sequence.specs.Limits.{maxTerms, aBytes, bBytes}
+use Rattle.sequence.specs.Limits.{maxTerms, maxCells, aBytes, bBytes}
 use Rattle.sequence.specs.Rules.{outside, sequenceOf, checkOf}
 use Rattle.candidate.specs.declared.Verdict.{Verdict}
 use Rattle.candidate.specs.declared.Verdict.the-variants as W
@@ -23,7 +23,7 @@ use Rattle.candidate.specs.declared.Flaw.the-variants as F
 
 -- the coefficients in a lent buffer: a_0 .. a_128, b_0 .. b_127
 abbrev pub aCells : List ℕ → List ℕ
-aCells a = cellsFrom a 0 (maxTerms + 1)
+aCells a = cellsFrom a 0 maxCells
 
 abbrev pub bCells : List ℕ → List ℕ
 bCells b = cellsFrom b 0 maxTerms
@@ -40,9 +40,9 @@ zeroPast k n xs = all n (λ i. pick (ltb i k) true (eqb (at xs i) zero))
 unfoldable pub flawOf : ℕ → ℕ → List ℕ → List ℕ → Flaw
 flawOf m l a b =
     pick (ltb maxTerms l) F.TooLong
-    (pick (allBelow m (maxTerms + 1) a)
+    (pick (allBelow m maxCells a)
     (pick (allBelow m maxTerms b)
-    (pick (zeroPast (l + 1) (maxTerms + 1) a)
+    (pick (zeroPast (l + 1) maxCells a)
     (pick (zeroPast l maxTerms b)
     (pick (eqb (at a 0) 1) F.Fine F.Lead)
     F.Coefficient) F.Coefficient) F.Coefficient) F.Coefficient)

@@ -2,12 +2,15 @@
 use sequence::Outcome;
 use sequence::Refusal;
 use sequence::Sequence;
+use steps::CELLS;
+use steps::TERMS;
 ghost use mathlib.Core.Path.{_≡_};
 ghost use Prim.Native.Nat.{ℕ, _+_, _*_, _/_, _≤_, _<_, min};
 ghost use lib.ListN.{length};
 ghost use Rattle.lists.specs.Table.{at};
 ghost use Rattle.cells.specs.Cell.{cellsFrom, bytesOf};
 ghost use Rattle.recurrence.specs.Running.{cell, generated, firstDifference};
+ghost use Rattle.sequence.specs.Limits.{maxTerms, aBytes, bBytes};
 ghost use Rattle.sequence.specs.Rules.{IsSound};
 ghost use Rattle.candidate.specs.Rules.{aCells, bCells, allBelow, zeroPast, flawOf, isFine, judgeOf, verifyOf, generateOf, generatedIn};
 
@@ -57,17 +60,17 @@ fn zero_past(s: &[u8], k: usize, n: usize) -> bool
 
 // The first thing wrong with a candidate of length l modulo m.
 pub fn find_flaw(m: u32, l: u32, a: &[u8], b: &[u8]) -> Flaw
-    requires { ⌜ (length (now a) ≡ 258) × (length (now b) ≡ 256) ⌝ }
+    requires { ⌜ (length (now a) ≡ aBytes) × (length (now b) ≡ bBytes) ⌝ }
     ensures { λ r. ⌜ r ≡ flawOf m l (aCells (now (a .entry))) (bCells (now (b .entry))) ⌝ }
 {
     if sequence::MAX_TERMS < l {
         return Flaw::TooLong;
     }
     let k = l as usize;
-    if all_below(a, 129, m) {
-        if all_below(b, 128, m) {
-            if zero_past(a, k + 1, 129) {
-                if zero_past(b, k, 128) {
+    if all_below(a, CELLS, m) {
+        if all_below(b, TERMS, m) {
+            if zero_past(a, k + 1, CELLS) {
+                if zero_past(b, k, TERMS) {
                     if cells::cell(a, 0) == 1 {
                         return Flaw::Fine;
                     }
@@ -81,7 +84,7 @@ pub fn find_flaw(m: u32, l: u32, a: &[u8], b: &[u8]) -> Flaw
 
 // Whether a candidate is well formed.
 pub fn is_fine(m: u32, l: u32, a: &[u8], b: &[u8]) -> bool
-    requires { ⌜ (length (now a) ≡ 258) × (length (now b) ≡ 256) ⌝ }
+    requires { ⌜ (length (now a) ≡ aBytes) × (length (now b) ≡ bBytes) ⌝ }
     ensures { λ r. ⌜ r ≡ isFine (flawOf m l (aCells (now (a .entry))) (bCells (now (b .entry)))) ⌝ }
 {
     let f = find_flaw(m, l, a, b);
@@ -102,8 +105,8 @@ fn product(x: u32, y: u32) -> u64
 }
 
 // The first of n places where the product of the terms and a differs from b modulo m, or n. One division for each sum.
-fn first_difference(terms: &[u32; 128], a: &[u8], b: &[u8], n: usize, m: u32) -> usize
-    requires { ⌜ (n ≤ 128) × (0 < m) × (m < 65536) × (length (now terms) ≡ 128) × (length (now a) ≡ 258) × (length (now b) ≡ 256) ⌝ }
+fn first_difference(terms: &[u32; TERMS], a: &[u8], b: &[u8], n: usize, m: u32) -> usize
+    requires { ⌜ (n ≤ maxTerms) × (0 < m) × (m < 65536) × (length (now terms) ≡ maxTerms) × (length (now a) ≡ aBytes) × (length (now b) ≡ bBytes) ⌝ }
     ensures { λ r. ⌜ r ≡ firstDifference m (now (terms .entry)) (aCells (now (a .entry))) (bCells (now (b .entry))) n ⌝ }
 {
     let mut j: usize = 0;
@@ -129,7 +132,7 @@ fn first_difference(terms: &[u32; 128], a: &[u8], b: &[u8], n: usize, m: u32) ->
 
 // The test of a candidate against a sound sequence.
 fn judge(s: Sequence, a: &[u8], b: &[u8], l: u32) -> Verdict
-    requires { ⌜ IsSound s × (length (now a) ≡ 258) × (length (now b) ≡ 256) ⌝ }
+    requires { ⌜ IsSound s × (length (now a) ≡ aBytes) × (length (now b) ≡ bBytes) ⌝ }
     ensures { λ r. ⌜ r ≡ judgeOf s (aCells (now (a .entry))) (bCells (now (b .entry))) l ⌝ }
 {
     let m = s.modulus;
@@ -174,7 +177,7 @@ fn smaller(x: usize, y: usize) -> usize
 
 // Cell j from the cells before it: b_j less the sum of a_i times cell j - i.
 fn next_cell(m: u32, a: &[u8], b: &[u8], l: usize, out: &[u8], j: usize) -> u32
-    requires { ⌜ (0 < m) × (m < 65536) × (length (now a) ≡ 258) × (length (now b) ≡ 256) × (l ≤ 128) × (j < 128) × (2 * j ≤ length (now out)) × (at (bCells (now b)) j < m) ⌝ }
+    requires { ⌜ (0 < m) × (m < 65536) × (length (now a) ≡ aBytes) × (length (now b) ≡ bBytes) × (l ≤ maxTerms) × (j < maxTerms) × (2 * j ≤ length (now out)) × (at (bCells (now b)) j < m) ⌝ }
     ensures { λ r. ⌜ r ≡ cell m l (aCells (now (a .entry))) (bCells (now (b .entry))) (cellsFrom (now (out .entry)) 0 j) j ⌝ }
 {
     let n = smaller(l, j);
@@ -189,8 +192,8 @@ fn next_cell(m: u32, a: &[u8], b: &[u8], l: usize, out: &[u8], j: usize) -> u32
 
 // Runs a candidate: fills n cells.
 fn fill(m: u32, a: &[u8], b: &[u8], l: usize, out: &mut [u8], n: usize)
-    requires { ⌜ (0 < m) × (m < 65536) × (length (now a) ≡ 258) × (length (now b) ≡ 256) × (l ≤ 128) × (n ≤ 128) × (length (now out) ≡ 2 * n) ⌝ }
-    requires { ⌜ ((i : ℕ) → i < 128 → at (bCells (now b)) i < m) ⌝ }
+    requires { ⌜ (0 < m) × (m < 65536) × (length (now a) ≡ aBytes) × (length (now b) ≡ bBytes) × (l ≤ maxTerms) × (n ≤ maxTerms) × (length (now out) ≡ 2 * n) ⌝ }
+    requires { ⌜ ((i : ℕ) → i < maxTerms → at (bCells (now b)) i < m) ⌝ }
     ensures { λ _. ⌜ now (out .exit) ≡ bytesOf (generated m l (aCells (now (a .entry))) (bCells (now (b .entry))) n) ⌝ }
 {
     let mut j: usize = 0;
@@ -224,7 +227,7 @@ pub fn generate(modulus: u32, a: &[u8], b: &[u8], length: u32, out: &mut [u8]) -
         return Outcome::Refused(Refusal::Modulus);
     }
     let n = out.len() / 2;
-    if 128 < n {
+    if TERMS < n {
         return Outcome::Refused(Refusal::Count);
     }
     if is_fine(modulus, length, a, b) {

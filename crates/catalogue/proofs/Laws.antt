@@ -23,12 +23,13 @@ use Rattle.sequence.specs.declared.Sequence.{Sequence}
 use Rattle.sequence.specs.declared.Refusal.the-variants as R
 use Rattle.sequence.specs.declared.Outcome.{Outcome}
 use Rattle.sequence.specs.declared.Outcome.the-variants as O
+use Rattle.sequence.specs.Limits.{queryBytes, registerBytes}
 use Rattle.sequence.specs.Rules.{sequenceOf, checkOf}
 use Rattle.catalogue.specs.declared.Match.{Match}
 use Rattle.catalogue.specs.declared.Match.the-variants as M
 use Rattle.catalogue.specs.declared.LookedUp.the-variants as S
 use Rattle.catalogue.specs.Word.{wordOf}
-use Rattle.catalogue.specs.Rules.{layout, recordOf, recordAt, queryAt, records, firstMatch, matchOf, passes, serveOf, answerOf, orElse, lookUpOf}
+use Rattle.catalogue.specs.Rules.{recordBytes, aPlace, layout, recordOf, recordAt, queryAt, records, firstMatch, matchOf, passes, serveOf, answerOf, orElse, lookUpOf}
 
 -- ---- filling a record
 
@@ -37,19 +38,19 @@ step : (p t ys : List ℕ) (a k : ℕ) → length p ≡ a → putMid a k (p ++ t
 step p t ys a k e = rw (take-at p t a e, drop-at p t a e) (sym (append-assoc p ys (drop k t)))
 
 three :
-    (out q l ab : List ℕ) → length out ≡ 776 → length q ≡ 260 → length l ≡ 2 →
-    putMid 262 514 (putMid 260 2 (q ++ postOf 0 260 out) l) ab ≡ q ++ (l ++ ab)
+    (out q l ab : List ℕ) → length out ≡ recordBytes → length q ≡ queryBytes → length l ≡ 2 →
+    putMid aPlace registerBytes (putMid queryBytes 2 (q ++ postOf 0 queryBytes out) l) ab ≡ q ++ (l ++ ab)
 three out q l ab ho hq hl =
-    ap (λ (z : List ℕ). putMid 262 514 z ab) (step q (postOf 0 260 out) l 260 2 hq)
-    ∙ step (q ++ l) (drop 2 (postOf 0 260 out)) ab 262 514 (length-append q l ∙ omega arith)
+    ap (λ (z : List ℕ). putMid aPlace registerBytes z ab) (step q (postOf 0 queryBytes out) l queryBytes 2 hq)
+    ∙ step (q ++ l) (drop 2 (postOf 0 queryBytes out)) ab aPlace registerBytes (length-append q l ∙ omega arith)
     ∙ ap (λ (z : List ℕ). ((q ++ l) ++ ab) ++ z) none
     ∙ append-nil ((q ++ l) ++ ab)
     ∙ append-assoc q l ab
   where
-    none : drop 514 (drop 2 (postOf 0 260 out)) ≡ []
+    none : drop registerBytes (drop 2 (postOf 0 queryBytes out)) ≡ []
     none =
-        drop-of-length-le (drop 2 (postOf 0 260 out)) {i = 514}
-        (omega (arith, length-drop 2 (postOf 0 260 out), length-drop 260 out))
+        drop-of-length-le (drop 2 (postOf 0 queryBytes out)) {i = registerBytes}
+        (omega (arith, length-drop 2 (postOf 0 queryBytes out), length-drop queryBytes out))
 
 one-cell : (xs : List ℕ) (v : ℕ) → length xs ≡ 2 → putCell xs 0 v ≡ bytesOf (v ∷ [])
 unfolding bytesOf
@@ -60,10 +61,10 @@ one-cell (x ∷ y ∷ z ∷ xs) v e = absurd (omega arith)
 
 -- the record, by the three calls that fill it
 pub is-record :
-    (out query q l ab : List ℕ) (s : Sequence) (x : Synthesis) → length out ≡ 776 → length query ≡ 260 → q ≡ query →
-    l ≡ putCell (take 2 (drop 260 (q ++ postOf 0 260 out))) 0 (x .length) → ab ≡ bytesOf (x .a) ++ bytesOf (x .b) →
+    (out query q l ab : List ℕ) (s : Sequence) (x : Synthesis) → length out ≡ recordBytes → length query ≡ queryBytes → q ≡ query →
+    l ≡ putCell (take 2 (drop queryBytes (q ++ postOf 0 queryBytes out))) 0 (x .length) → ab ≡ bytesOf (x .a) ++ bytesOf (x .b) →
     s ≡ sequenceOf query → x ≡ synthesisOf (s .modulus) (s .terms) (s .count) →
-    putMid 262 514 (putMid 260 2 (q ++ postOf 0 260 out) l) ab ≡ recordOf query
+    putMid aPlace registerBytes (putMid queryBytes 2 (q ++ postOf 0 queryBytes out) l) ab ≡ recordOf query
 unfolding recordOf layout synthesisOf
 is-record out query q l ab s x ho hq eq el eab es ex =
     three out q l ab ho size-q (ap length line ∙ two-bytes (x .length))
@@ -73,45 +74,45 @@ is-record out query q l ab s x ho hq eq el eab es ex =
     ∙ ap (λ (z : Synthesis). query ++ (bytesOf (z .length ∷ []) ++ (bytesOf (z .a) ++ bytesOf (z .b)))) ex
     ∙ ap (layout query) es
   where
-    size-q : length q ≡ 260
+    size-q : length q ≡ queryBytes
     size-q = ap length eq ∙ hq
 
     two-bytes : (v : ℕ) → length (bytesOf (v ∷ [])) ≡ 2
     two-bytes v = length-bytesOf (v ∷ [])
 
-    two : length (take 2 (drop 260 (q ++ postOf 0 260 out))) ≡ 2
+    two : length (take 2 (drop queryBytes (q ++ postOf 0 queryBytes out))) ≡ 2
     two =
-        length-take-le 2 (drop 260 (q ++ postOf 0 260 out))
-        (omega (arith, length-drop 260 (q ++ postOf 0 260 out), length-append q (postOf 0 260 out), length-drop 260 out, size-q))
+        length-take-le 2 (drop queryBytes (q ++ postOf 0 queryBytes out))
+        (omega (arith, length-drop queryBytes (q ++ postOf 0 queryBytes out), length-append q (postOf 0 queryBytes out), length-drop queryBytes out, size-q))
 
     line : l ≡ bytesOf (x .length ∷ [])
-    line = el ∙ one-cell (take 2 (drop 260 (q ++ postOf 0 260 out))) (x .length) two
+    line = el ∙ one-cell (take 2 (drop queryBytes (q ++ postOf 0 queryBytes out))) (x .length) two
 
 -- ---- searching a catalogue
 
 -- record i, as the code cuts it out
-pub cut-record : (catalogue : List ℕ) (at : ℕ) → take (at + 776 - at) (drop at catalogue) ≡ take 776 (drop at catalogue)
+pub cut-record : (catalogue : List ℕ) (at : ℕ) → take (at + recordBytes - at) (drop at catalogue) ≡ take recordBytes (drop at catalogue)
 cut-record catalogue at =
-    let e : at + 776 - at ≡ 776 = omega arith in
+    let e : at + recordBytes - at ≡ recordBytes = omega arith in
     ap (λ (z : ℕ). take z (drop at catalogue)) e
 
 -- the query in it
 pub cut-query :
     (query catalogue : List ℕ) (at : ℕ) →
-    equal query (take 260 (take (at + 776 - at) (drop at catalogue))) ≡ equal query (take 260 (drop at catalogue))
+    equal query (take queryBytes (take (at + recordBytes - at) (drop at catalogue))) ≡ equal query (take queryBytes (drop at catalogue))
 cut-query query catalogue at =
-    ap (λ (z : List ℕ). equal query (take 260 z)) (cut-record catalogue at)
-    ∙ ap (equal query) (take-take 260 776 (drop at catalogue) (omega arith))
+    ap (λ (z : List ℕ). equal query (take queryBytes z)) (cut-record catalogue at)
+    ∙ ap (equal query) (take-take queryBytes recordBytes (drop at catalogue) (omega arith))
 
 -- records that differ in their first four terms differ
-pub word-tells : (query entry : List ℕ) (x y : ℕ) → x ≡ wordOf query → y ≡ wordOf entry → (x ≡ y → ⊥) → false ≡ equal query (take 260 entry)
+pub word-tells : (query entry : List ℕ) (x y : ℕ) → x ≡ wordOf query → y ≡ wordOf entry → (x ≡ y → ⊥) → false ≡ equal query (take queryBytes entry)
 word-tells query entry x y hx hy differ =
-    sym (equal-ne query (take 260 entry) (λ e. differ (hx ∙ ap wordOf e ∙ cut ∙ sym hy)))
+    sym (equal-ne query (take queryBytes entry) (λ e. differ (hx ∙ ap wordOf e ∙ cut ∙ sym hy)))
   where
-    same : (i : ℕ) → i < 260 → at (take 260 entry) i ≡ at entry i
-    same i h = getD-take 260 entry i 0 h
+    same : (i : ℕ) → i < queryBytes → at (take queryBytes entry) i ≡ at entry i
+    same i h = getD-take queryBytes entry i 0 h
 
-    cut : wordOf (take 260 entry) ≡ wordOf entry
+    cut : wordOf (take queryBytes entry) ≡ wordOf entry
     cut =
         omega (
           arith,
@@ -154,7 +155,7 @@ match-below n k i h = go (ltb k n) refl h
 pub found-below : (query catalogue out : List ℕ) (i : ℕ) → lookUpOf query catalogue out ≡ S.Found i → i < records catalogue
 unfolding lookUpOf answerOf
 found-below query catalogue out i h =
-    go (eqb (length out) 776) (checkOf query) (eqb (length catalogue % 776) 0) (matchOf (records catalogue) k) refl h
+    go (eqb (length out) recordBytes) (checkOf query) (eqb (length catalogue % recordBytes) 0) (matchOf (records catalogue) k) refl h
   where
     k : ℕ
     k = firstMatch query catalogue (records catalogue)

@@ -11,17 +11,17 @@ use Rattle.lists.proofs.Table.{length-tabulate}
 use Rattle.cells.specs.Cell.{cellAt, bytesOf}
 use Rattle.cells.proofs.Laws.{length-bytesOf, cellAt-bytesOf}
 use Rattle.sequence.specs.declared.Sequence.{Sequence}
-use Rattle.sequence.specs.Limits.{queryBytes, aBytes, bBytes}
+use Rattle.sequence.specs.Limits.{queryBytes, aBytes, bBytes, maxCells, maxTerms}
 use Rattle.sequence.specs.Report.{registerOf, aBuffer, bBuffer}
 use Rattle.catalogue.specs.Rules.{aPlace, bPlace, lengthCell, layout}
 
 pub length-a : (s : Sequence) → length (aBuffer s) ≡ aBytes
 length-a s =
-    length-bytesOf (tabulate 129 (at (registerOf s .a))) ∙ ap (λ (n : ℕ). 2 * n) (length-tabulate 129 (at (registerOf s .a)))
+    length-bytesOf (tabulate maxCells (at (registerOf s .a))) ∙ ap (λ (n : ℕ). 2 * n) (length-tabulate maxCells (at (registerOf s .a)))
 
 pub length-b : (s : Sequence) → length (bBuffer s) ≡ bBytes
 length-b s =
-    length-bytesOf (tabulate 128 (at (registerOf s .b))) ∙ ap (λ (n : ℕ). 2 * n) (length-tabulate 128 (at (registerOf s .b)))
+    length-bytesOf (tabulate maxTerms (at (registerOf s .b))) ∙ ap (λ (n : ℕ). 2 * n) (length-tabulate maxTerms (at (registerOf s .b)))
 
 module _ (query : List ℕ) (s : Sequence) (size : length query ≡ queryBytes) where
   l : List ℕ
@@ -34,7 +34,7 @@ module _ (query : List ℕ) (s : Sequence) (size : length query ≡ queryBytes) 
   head : List ℕ
   head = query ++ l
 
-  head-long : length head ≡ 262
+  head-long : length head ≡ aPlace
   unfolding head
   head-long = omega (arith, length-append query l, two, size)
 
@@ -44,26 +44,26 @@ module _ (query : List ℕ) (s : Sequence) (size : length query ≡ queryBytes) 
 
   pub layout-query : take queryBytes (layout query s) ≡ query
   unfolding layout
-  layout-query = take-at query _ 260 size
+  layout-query = take-at query _ queryBytes size
 
   pub layout-a : take aBytes (drop aPlace (layout query s)) ≡ aBuffer s
   layout-a =
-      ap (λ (x : List ℕ). take 258 (drop 262 x)) grouped
-      ∙ ap (take 258) (drop-at head (aBuffer s ++ bBuffer s) 262 head-long) ∙ take-at (aBuffer s) (bBuffer s) 258 (length-a s)
+      ap (λ (x : List ℕ). take aBytes (drop aPlace x)) grouped
+      ∙ ap (take aBytes) (drop-at head (aBuffer s ++ bBuffer s) aPlace head-long) ∙ take-at (aBuffer s) (bBuffer s) aBytes (length-a s)
 
   pub layout-b : take bBytes (drop bPlace (layout query s)) ≡ bBuffer s
   layout-b =
-      ap (λ (x : List ℕ). take 256 (drop 520 x)) grouped
-      ∙ ap (take 256) (sym (drop-drop 258 262 (head ++ (aBuffer s ++ bBuffer s))) ∙ ap (drop 258) (drop-at head (aBuffer s ++ bBuffer s) 262 head-long)
-      ∙ drop-at (aBuffer s) (bBuffer s) 258 (length-a s))
-      ∙ take-all 256 (bBuffer s) (omega (arith, length-b s))
+      ap (λ (x : List ℕ). take bBytes (drop bPlace x)) grouped
+      ∙ ap (take bBytes) (sym (drop-drop aBytes aPlace (head ++ (aBuffer s ++ bBuffer s))) ∙ ap (drop aBytes) (drop-at head (aBuffer s ++ bBuffer s) aPlace head-long)
+      ∙ drop-at (aBuffer s) (bBuffer s) aBytes (length-a s))
+      ∙ take-all bBytes (bBuffer s) (omega (arith, length-b s))
 
   pub layout-length-cell : registerOf s .length < 65536 → cellAt (layout query s) lengthCell ≡ registerOf s .length
   unfolding layout l
   layout-length-cell small =
       omega (arith, here 0 (omega arith), here 1 (omega arith), cellAt-bytesOf (registerOf s .length ∷ []) 0 small)
     where
-      here : (j : ℕ) → j < 2 → at (layout query s) (260 + j) ≡ at l j
+      here : (j : ℕ) → j < 2 → at (layout query s) (queryBytes + j) ≡ at l j
       here j h =
           ap (λ (n : ℕ). at (layout query s) (n + j)) (sym size)
           ∙ getD-append-add query (l ++ (aBuffer s ++ bBuffer s)) j 0

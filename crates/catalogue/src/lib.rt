@@ -6,10 +6,11 @@ ghost use mathlib.Core.Path.{_≡_};
 ghost use Prim.Native.Nat.{_+_, _*_, _/_, _≤_, _<_};
 ghost use lib.ListN.{length, take};
 ghost use Rattle.cells.specs.Cell.{equal};
+ghost use Rattle.sequence.specs.Limits.{queryBytes};
 ghost use Rattle.sequence.specs.Rules.{checkOf};
 ghost use Rattle.sequence.specs.Report.{filled};
 ghost use Rattle.catalogue.specs.Word.{wordOf};
-ghost use Rattle.catalogue.specs.Rules.{recordOf, synthesizeOf, records, firstMatch, matchOf, passes, serveOf, answerOf, lookUpOf, servedIn};
+ghost use Rattle.catalogue.specs.Rules.{recordBytes, recordOf, synthesizeOf, records, firstMatch, matchOf, passes, serveOf, answerOf, lookUpOf, servedIn};
 
 // A record: the query, the length, a and b begin at these bytes.
 const LENGTH_PLACE: usize = 260;
@@ -19,6 +20,11 @@ const A_PLACE: usize = 262;
 const B_PLACE: usize = 520;
 
 pub const RECORD_BYTES: usize = 776;
+
+// The length and a begin at these cells.
+pub const LENGTH_CELL: usize = 130;
+
+pub const A_CELL: usize = 131;
 
 pub enum LookedUp {
     Found(usize),
@@ -34,7 +40,7 @@ pub enum Match {
 // The record of a query that passed its checks. The part from byte 262 on is lent to the code that writes a register.
 fn write_record(query: &[u8], out: &mut [u8])
     requires { ⌜ checkOf (now query) ≡ Outcome.Done ⌝ }
-    requires { ⌜ length (now out) ≡ 776 ⌝ }
+    requires { ⌜ length (now out) ≡ recordBytes ⌝ }
     ensures { λ _. ⌜ now (out .exit) ≡ recordOf (now (query .entry)) ⌝ }
 {
     let s = sequence::load(query);
@@ -82,18 +88,18 @@ fn word(s: &[u8]) -> u64
 // Whether a record is one of the query: its first 260 bytes are the query's. Most records are told apart by the first four terms;
 // of the others it reads up to the first byte that differs.
 fn is_of(query: &[u8], entry: &[u8]) -> bool
-    requires { ⌜ (length (now query) ≡ 260) × (length (now entry) ≡ 776) ⌝ }
-    ensures { λ r. ⌜ r ≡ equal (now (query .entry)) (take 260 (now (entry .entry))) ⌝ }
+    requires { ⌜ (length (now query) ≡ queryBytes) × (length (now entry) ≡ recordBytes) ⌝ }
+    ensures { λ r. ⌜ r ≡ equal (now (query .entry)) (take queryBytes (now (entry .entry))) ⌝ }
 {
     if word(query) != word(entry) {
         return false;
     }
-    cells::same(&query[0..260], &entry[0..260])
+    cells::same(&query[0..LENGTH_PLACE], &entry[0..LENGTH_PLACE])
 }
 
 // The first record whose first 260 bytes are the query's.
 fn find(query: &[u8], catalogue: &[u8]) -> Match
-    requires { ⌜ length (now query) ≡ 260 ⌝ }
+    requires { ⌜ length (now query) ≡ queryBytes ⌝ }
     ensures { λ r. ⌜ r ≡ matchOf (records (now (catalogue .entry))) (firstMatch (now (query .entry)) (now (catalogue .entry)) (records (now (catalogue .entry)))) ⌝ }
 {
     let n = catalogue.len() / RECORD_BYTES;
@@ -110,10 +116,10 @@ fn find(query: &[u8], catalogue: &[u8]) -> Match
 
 // Whether the register in a record passes the test against the query.
 fn is_good(query: &[u8], entry: &[u8]) -> bool
-    requires { ⌜ length (now entry) ≡ 776 ⌝ }
+    requires { ⌜ length (now entry) ≡ recordBytes ⌝ }
     ensures { λ r. ⌜ r ≡ passes (now (query .entry)) (now (entry .entry)) ⌝ }
 {
-    let l = cells::cell(entry, 130);
+    let l = cells::cell(entry, LENGTH_CELL);
     let v = candidate::verify(
         query,
         &entry[A_PLACE..B_PLACE],
@@ -129,7 +135,7 @@ fn is_good(query: &[u8], entry: &[u8]) -> bool
 
 // Serves record i.
 fn serve(query: &[u8], catalogue: &[u8], out: &mut [u8], i: usize) -> LookedUp
-    requires { ⌜ (i < length (now catalogue) / 776) × (length (now out) ≡ 776) ⌝ }
+    requires { ⌜ (i < length (now catalogue) / recordBytes) × (length (now out) ≡ recordBytes) ⌝ }
     ensures { λ r. ⌜ r ≡ serveOf (now (query .entry)) (now (catalogue .entry)) (Match.At i) ⌝ }
     ensures { λ r. ⌜ now (out .exit) ≡ servedIn r (now (query .entry)) (now (catalogue .entry)) (now (out .entry)) ⌝ }
 {
@@ -145,7 +151,7 @@ fn serve(query: &[u8], catalogue: &[u8], out: &mut [u8], i: usize) -> LookedUp
 // Answers a query that passed its checks.
 fn answer(query: &[u8], catalogue: &[u8], out: &mut [u8]) -> LookedUp
     requires { ⌜ checkOf (now query) ≡ Outcome.Done ⌝ }
-    requires { ⌜ length (now out) ≡ 776 ⌝ }
+    requires { ⌜ length (now out) ≡ recordBytes ⌝ }
     ensures { λ r. ⌜ r ≡ answerOf (now (query .entry)) (now (catalogue .entry)) ⌝ }
     ensures { λ r. ⌜ now (out .exit) ≡ servedIn r (now (query .entry)) (now (catalogue .entry)) (now (out .entry)) ⌝ }
 {

@@ -2,7 +2,7 @@
 -- Assumes nothing.
 use mathlib.Core.Path.{_≡_, sym, ap, _∙_, subst}
 use mathlib.Core.List.{List}
-use Prim.Native.Nat.{ℕ, zero, _+_, _≤_, _<_}
+use Prim.Native.Nat.{ℕ, zero, _≤_, _<_}
 use native.Mathlib.Omega.{arith}
 use lib.ListN.{length}
 use borrow.Author.Tests.{eq-eqb, le-leb, lt-leb}
@@ -22,7 +22,7 @@ use Rattle.sequence.specs.declared.Outcome.{Outcome}
 use Rattle.sequence.specs.declared.Outcome.the-variants.{Done}
 use Rattle.sequence.specs.declared.Reported.{Reported}
 use Rattle.sequence.specs.declared.Reported.the-variants.{Length}
-use Rattle.sequence.specs.Limits.{maxModulus, maxTerms, aBytes, bBytes, profileBytes}
+use Rattle.sequence.specs.Limits.{maxModulus, maxTerms, maxCells, aBytes, bBytes, profileBytes}
 use Rattle.synthesis.specs.Synthesis.{lengthAt}
 use Rattle.sequence.specs.Report.{registerOf, aBuffer, bBuffer, profileBuffer, reportOf, written, profileOf, filled}
 use Rattle.guarantees.specs.Calls.{taken}
@@ -59,29 +59,29 @@ module _ (m : ℕ) (least : 2 ≤ m) (most : m ≤ maxModulus) (ts : List ℕ) (
   pub reported : (a b : List ℕ) → length a ≡ aBytes → length b ≡ bBytes → reportOf (holding m ts) a b ≡ Length (T.register m ts (length ts) .length)
   unfolding reportOf
   reported a b ha hb =
-      rw (eq-eqb (length a) 258 ha, eq-eqb (length b) 256 hb, sound-for m least most ts g) (ap (λ (x : Register). Length (x .length)) same-register)
+      rw (eq-eqb (length a) aBytes ha, eq-eqb (length b) bBytes hb, sound-for m least most ts g) (ap (λ (x : Register). Length (x .length)) same-register)
 
   pub profiled : (cells : List ℕ) → length cells ≡ profileBytes → profileOf (holding m ts) cells ≡ Done
   unfolding profileOf
-  profiled cells h = rw (eq-eqb (length cells) 258 h, sound-for m least most ts g)
+  profiled cells h = rw (eq-eqb (length cells) profileBytes h, sound-for m least most ts g)
 
   pub a-written : (a b : List ℕ) → length a ≡ aBytes → length b ≡ bBytes
-      → written (reportOf (holding m ts) a b) (aBuffer (holding m ts)) a ≡ bytesOf (tabulate (maxTerms + 1) (at (T.register m ts (length ts) .a)))
+      → written (reportOf (holding m ts) a b) (aBuffer (holding m ts)) a ≡ bytesOf (tabulate maxCells (at (T.register m ts (length ts) .a)))
   a-written a b ha hb =
       ap (λ (r : Reported). written r (aBuffer (holding m ts)) a) (reported a b ha hb)
-      ∙ ap (λ (x : Register). bytesOf (tabulate 129 (at (x .a)))) same-register
+      ∙ ap (λ (x : Register). bytesOf (tabulate maxCells (at (x .a)))) same-register
 
   pub b-written : (a b : List ℕ) → length a ≡ aBytes → length b ≡ bBytes
       → written (reportOf (holding m ts) a b) (bBuffer (holding m ts)) b ≡ bytesOf (tabulate maxTerms (at (T.register m ts (length ts) .b)))
   b-written a b ha hb =
       ap (λ (r : Reported). written r (bBuffer (holding m ts)) b) (reported a b ha hb)
-      ∙ ap (λ (x : Register). bytesOf (tabulate 128 (at (x .b)))) same-register
+      ∙ ap (λ (x : Register). bytesOf (tabulate maxTerms (at (x .b)))) same-register
 
-  profile-cell : (cells : List ℕ) → length cells ≡ profileBytes → (k : ℕ) → k < 129 → lengthAt m (padded ts) (length ts) k < 65536
+  profile-cell : (cells : List ℕ) → length cells ≡ profileBytes → (k : ℕ) → k < maxCells → lengthAt m (padded ts) (length ts) k < 65536
       → cellAt (filled (profileOf (holding m ts) cells) (profileBuffer (holding m ts)) cells) k ≡ lengthAt m (padded ts) (length ts) k
   profile-cell cells h k l s =
       ap (λ (o : Outcome). cellAt (filled o (profileBuffer (holding m ts)) cells) k) (profiled cells h)
-      ∙ cell-of 129 (lengthAt m (padded ts) (length ts)) k l s
+      ∙ cell-of maxCells (lengthAt m (padded ts) (length ts)) k l s
 
   profile-at : (cells : List ℕ) → length cells ≡ profileBytes → (k : ℕ) → k ≤ length ts
       → cellAt (filled (profileOf (holding m ts) cells) (profileBuffer (holding m ts)) cells) k ≡ complexity m ts k
@@ -106,7 +106,7 @@ module _ (m : ℕ) (least : 2 ≤ m) (most : m ≤ maxModulus) (ts : List ℕ) (
         last = register-length m big ts (length ts) ∙ sym (profile-at cells hc (length ts) (omega arith));
         one =
             ap (λ (s : List ℕ). cellAt s 0) (a-written a b ha hb)
-            ∙ cell-of 129 (at (T.register m ts (length ts) .a)) 0 (omega arith) (omega (arith, right .one)) ∙ right .one;
+            ∙ cell-of maxCells (at (T.register m ts (length ts) .a)) 0 (omega arith) (omega (arith, right .one)) ∙ right .one;
         generates = right .generates;
       }
 

@@ -27,7 +27,7 @@ use Rattle.sequence.specs.declared.Outcome.{Outcome}
 use Rattle.sequence.specs.declared.Outcome.the-variants.{Done, Refused}
 use Rattle.sequence.specs.declared.Reported.{Reported}
 use Rattle.sequence.specs.declared.Reported.the-variants.{Length}
-use Rattle.sequence.specs.Limits.{maxModulus, queryBytes, aBytes, bBytes}
+use Rattle.sequence.specs.Limits.{maxModulus, queryBytes, aBytes, bBytes, maxCells, maxTerms}
 use Rattle.sequence.specs.Rules.{openOf, sequenceOf, checkOf, IsSound}
 use Rattle.sequence.specs.Report.{registerOf, aBuffer, bBuffer, reportOf, written, filled}
 use Rattle.sequence.proofs.Laws.{check-done}
@@ -66,9 +66,9 @@ module _ (query : List ℕ) (fine : checkOf query ≡ Done) where
 
   -- ---- the query's sequence is the one that holds its terms
 
-  long : length (sequenceOf query .terms) ≡ 128
+  long : length (sequenceOf query .terms) ≡ maxTerms
   unfolding sequenceOf
-  long = length-tabulate 128 _
+  long = length-tabulate maxTerms _
 
   terms-long : length (termsOf query) ≡ sequenceOf query .count
   unfolding s sequenceOf
@@ -78,11 +78,11 @@ module _ (query : List ℕ) (fine : checkOf query ≡ Done) where
   unfolding s sequenceOf
   terms-padded =
       ext-getD 0 (padded (termsOf query)) (sequenceOf query .terms)
-      (omega (arith, length-append (termsOf query) (replicate (128 - length (termsOf query)) 0), length-replicate {A = ℕ} (128 - length (termsOf query)) 0, terms-long, long, sound .count))
+      (omega (arith, length-append (termsOf query) (replicate (maxTerms - length (termsOf query)) 0), length-replicate {A = ℕ} (maxTerms - length (termsOf query)) 0, terms-long, long, sound .count))
       (λ i h. go i h (lt-or-le i (length (termsOf query))))
     where
-      total : length (padded (termsOf query)) ≡ 128
-      total = omega (arith, length-append (termsOf query) (replicate (128 - length (termsOf query)) 0), length-replicate {A = ℕ} (128 - length (termsOf query)) 0, terms-long, sound .count)
+      total : length (padded (termsOf query)) ≡ maxTerms
+      total = omega (arith, length-append (termsOf query) (replicate (maxTerms - length (termsOf query)) 0), length-replicate {A = ℕ} (maxTerms - length (termsOf query)) 0, terms-long, sound .count)
 
       go : (i : ℕ) → i < length (padded (termsOf query)) → (i < length (termsOf query)) ⊎ (length (termsOf query) ≤ i)
           → at (padded (termsOf query)) i ≡ at (sequenceOf query .terms) i
@@ -91,7 +91,7 @@ module _ (query : List ℕ) (fine : checkOf query ≡ Done) where
           let d : ℕ = i - length (termsOf query) in
           let e : length (termsOf query) + d ≡ i = omega arith in
           subst (λ (z : ℕ). at (padded (termsOf query)) z ≡ 0) e
-          (getD-append-add (termsOf query) (replicate (128 - length (termsOf query)) 0) d 0 ∙ getD-replicate (128 - length (termsOf query)) d 0 0 (omega (arith, total)))
+          (getD-append-add (termsOf query) (replicate (maxTerms - length (termsOf query)) 0) d 0 ∙ getD-replicate (maxTerms - length (termsOf query)) d 0 0 (omega (arith, total)))
           ∙ sym (sound .zeros i (omega (arith, terms-long)) (omega (arith, total)))
 
   held : holding (cellAt query 0) (termsOf query) ≡ sequenceOf query
@@ -114,7 +114,7 @@ module _ (query : List ℕ) (fine : checkOf query ≡ Done) where
   unfolding s sequenceOf
   most = sound .most
 
-  short : registerOf (sequenceOf query) .length ≤ 128
+  short : registerOf (sequenceOf query) .length ≤ maxTerms
   unfolding s
   short = omega (arith, right .short, sound .count)
 
@@ -149,23 +149,23 @@ module _ (query : List ℕ) (fine : checkOf query ≡ Done) where
 
   -- ---- the record passes its own test
 
-  a-back : aCells (aBuffer (sequenceOf query)) ≡ tabulate 129 (at (registerOf (sequenceOf query) .a))
+  a-back : aCells (aBuffer (sequenceOf query)) ≡ tabulate maxCells (at (registerOf (sequenceOf query) .a))
   unfolding s
-  a-back = cells-back 129 (at (registerOf (sequenceOf query) .a)) (λ i h. omega (arith, right .small-a i, sound .most))
+  a-back = cells-back maxCells (at (registerOf (sequenceOf query) .a)) (λ i h. omega (arith, right .small-a i, sound .most))
 
-  b-back : bCells (bBuffer (sequenceOf query)) ≡ tabulate 128 (at (registerOf (sequenceOf query) .b))
+  b-back : bCells (bBuffer (sequenceOf query)) ≡ tabulate maxTerms (at (registerOf (sequenceOf query) .b))
   unfolding s
-  b-back = cells-back 128 (at (registerOf (sequenceOf query) .b)) (λ i h. omega (arith, right .small-b i, sound .most))
+  b-back = cells-back maxTerms (at (registerOf (sequenceOf query) .b)) (λ i h. omega (arith, right .small-b i, sound .most))
 
   -- cutting at 129 and 128 cells loses nothing
-  a-all : (i : ℕ) → at (tabulate 129 (at (registerOf (sequenceOf query) .a))) i ≡ at (registerOf (sequenceOf query) .a) i
-  a-all = at-tabulate-all 129 _ (λ i h. right .past-a i (omega (arith, short)))
+  a-all : (i : ℕ) → at (tabulate maxCells (at (registerOf (sequenceOf query) .a))) i ≡ at (registerOf (sequenceOf query) .a) i
+  a-all = at-tabulate-all maxCells _ (λ i h. right .past-a i (omega (arith, short)))
 
-  b-all : (i : ℕ) → at (tabulate 128 (at (registerOf (sequenceOf query) .b))) i ≡ at (registerOf (sequenceOf query) .b) i
-  b-all = at-tabulate-all 128 _ (λ i h. right .past-b i (omega (arith, short)))
+  b-all : (i : ℕ) → at (tabulate maxTerms (at (registerOf (sequenceOf query) .b))) i ≡ at (registerOf (sequenceOf query) .b) i
+  b-all = at-tabulate-all maxTerms _ (λ i h. right .past-b i (omega (arith, short)))
 
   fine-candidate : IsFine (sequenceOf query .modulus) (registerOf (sequenceOf query) .length)
-      (tabulate 129 (at (registerOf (sequenceOf query) .a))) (tabulate 128 (at (registerOf (sequenceOf query) .b)))
+      (tabulate maxCells (at (registerOf (sequenceOf query) .a))) (tabulate maxTerms (at (registerOf (sequenceOf query) .b)))
   fine-candidate =
       record {
         short = short;
@@ -176,8 +176,8 @@ module _ (query : List ℕ) (fine : checkOf query ≡ Done) where
         lead = a-all 0 ∙ right .one;
       }
 
-  agree : firstDifference (sequenceOf query .modulus) (sequenceOf query .terms) (tabulate 129 (at (registerOf (sequenceOf query) .a)))
-      (tabulate 128 (at (registerOf (sequenceOf query) .b))) (sequenceOf query .count) ≡ sequenceOf query .count
+  agree : firstDifference (sequenceOf query .modulus) (sequenceOf query .terms) (tabulate maxCells (at (registerOf (sequenceOf query) .a)))
+      (tabulate maxTerms (at (registerOf (sequenceOf query) .b))) (sequenceOf query .count) ≡ sequenceOf query .count
   agree =
       no-difference (sequenceOf query .modulus) (sequenceOf query .terms) _ _ (sequenceOf query .count)
       (λ j h. ap (λ (f : ℕ → ℕ). conv (at (sequenceOf query .terms)) f j % sequenceOf query .modulus) (fun-ext a-all)
@@ -196,8 +196,8 @@ module _ (query : List ℕ) (fine : checkOf query ≡ Done) where
         layout-a query (sequenceOf query) size,
         layout-b query (sequenceOf query) size,
         layout-length-cell query (sequenceOf query) size small,
-        eq-eqb (length (aBuffer (sequenceOf query))) 258 (length-a (sequenceOf query)),
-        eq-eqb (length (bBuffer (sequenceOf query))) 256 (length-b (sequenceOf query)),
+        eq-eqb (length (aBuffer (sequenceOf query))) aBytes (length-a (sequenceOf query)),
+        eq-eqb (length (bBuffer (sequenceOf query))) bBytes (length-b (sequenceOf query)),
         fine,
         judged,
       )
@@ -210,11 +210,11 @@ record-query query h = layout-query query (sequenceOf query) h
 
 making : (query out : List ℕ) → checkOf query ≡ Done → length out ≡ recordBytes → synthesizeOf query out ≡ Done
 unfolding synthesizeOf
-making query out fine h = rw (eq-eqb (length out) 776 h) fine
+making query out fine h = rw (eq-eqb (length out) recordBytes h) fine
 
 making-checked : (query out : List ℕ) → synthesizeOf query out ≡ Done → checkOf query ≡ Done
 unfolding synthesizeOf
-making-checked query out h = go (eqb (length out) 776) h
+making-checked query out h = go (eqb (length out) recordBytes) h
   where
     go : (t : Bool) → pick t (checkOf query) (Refused R.Buffer) ≡ Done → checkOf query ≡ Done
     go true h = h
@@ -230,7 +230,7 @@ made-same query entry made h = is ∙ ap recordOf same
     same : made .query ≡ query
     same =
         sym (record-query (made .query) (check-done (made .query) (making-checked (made .query) (made .out) (made .made)) .0))
-        ∙ ap (take 260) (sym is) ∙ h
+        ∙ ap (take queryBytes) (sym is) ∙ h
 
 -- the empty catalogue is one that was made
 pub empty-made : MadeCatalogue []
@@ -241,7 +241,7 @@ empty-made = record { whole = refl; each = λ i h. absurd (not-suc-le-zero h) }
 module _ (query catalogue out : List ℕ) (fine : checkOf query ≡ Done) (made : MadeCatalogue catalogue) (long : length out ≡ recordBytes) where
   looked : lookUpOf query catalogue out ≡ serveOf query catalogue (matchOf (records catalogue) (firstMatch query catalogue (records catalogue)))
   unfolding lookUpOf answerOf
-  looked = rw (eq-eqb (length out) 776 long, fine, eq-eqb (length catalogue % 776) 0 (made .whole))
+  looked = rw (eq-eqb (length out) recordBytes long, fine, eq-eqb (length catalogue % recordBytes) 0 (made .whole))
 
   found-record : firstMatch query catalogue (records catalogue) < records catalogue → recordAt catalogue (firstMatch query catalogue (records catalogue)) ≡ recordOf query
   unfolding firstMatch
@@ -250,9 +250,9 @@ module _ (query catalogue out : List ℕ) (fine : checkOf query ≡ Done) (made 
       j : ℕ
       j = firstMatch query catalogue (records catalogue)
 
-      key : take 260 (recordAt catalogue j) ≡ query
+      key : take queryBytes (recordAt catalogue j) ≡ query
       key =
-          take-take 260 776 (drop (j * 776) catalogue) (omega arith)
+          take-take queryBytes recordBytes (drop (j * recordBytes) catalogue) (omega arith)
           ∙ sym (equal-eq query (queryAt catalogue j) (first-passes (records catalogue) (λ k. equal query (queryAt catalogue k)) h))
 
   outcome : (((j : ℕ) × (lookUpOf query catalogue out ≡ Found j)) ⊎ (lookUpOf query catalogue out ≡ Made))

@@ -17,14 +17,14 @@ use Rattle.sequence.specs.declared.Sequence.{Sequence}
 use Rattle.sequence.specs.declared.Outcome.the-variants.{Done}
 use Rattle.sequence.specs.declared.Opened.{Opened}
 use Rattle.sequence.specs.declared.Pushed.{Pushed}
-use Rattle.sequence.specs.Limits.{maxModulus}
+use Rattle.sequence.specs.Limits.{maxModulus, maxTerms}
 use Rattle.sequence.specs.Rules.{openOf, pushOf, faultOf, isSound, IsSound}
 use Rattle.sequence.proofs.Laws.{is-sound, open-done, push-done, push-full, push-large}
 use Rattle.guarantees.specs.Calls.{Call, push, register, profile, afterAll, takes, takenFrom, taken}
 
 -- the terms in an array of 128, zero past the last
 abbrev pub padded : List ℕ → List ℕ
-padded ts = ts ++ replicate (128 - length ts) 0
+padded ts = ts ++ replicate (maxTerms - length ts) 0
 
 -- the sequence that holds these terms
 abbrev pub holding : ℕ → List ℕ → Sequence
@@ -32,11 +32,11 @@ holding m ts = record { modulus = m; count = length ts; terms = padded ts }
 
 -- at most 128 terms, each below m
 pub record Good (m : ℕ) (ts : List ℕ) : Type 0 where
-  pub size : length ts ≤ 128
+  pub size : length ts ≤ maxTerms
   pub below : (j : ℕ) → j < length ts → at ts j < m
 
 pub padded-at : (ts : List ℕ) (j : ℕ) → j < length ts → at (padded ts) j ≡ at ts j
-padded-at ts j h = List·getD-append ts (replicate (128 - length ts) 0) 0 j h
+padded-at ts j h = List·getD-append ts (replicate (maxTerms - length ts) 0) 0 j h
 
 module _ (m : ℕ) (least : 2 ≤ m) (most : m ≤ maxModulus) where
   holding-sound : (ts : List ℕ) → Good m ts → IsSound (holding m ts)
@@ -49,25 +49,25 @@ module _ (m : ℕ) (least : 2 ≤ m) (most : m ≤ maxModulus) where
         zeros = λ j h k.
             let d : ℕ = j - length ts in
             let e : length ts + d ≡ j = omega arith in
-            subst (λ (z : ℕ). at (padded ts) z ≡ 0) e (getD-append-add ts (replicate (128 - length ts) 0) d 0 ∙ getD-replicate (128 - length ts) d 0 0 (omega arith));
+            subst (λ (z : ℕ). at (padded ts) z ≡ 0) e (getD-append-add ts (replicate (maxTerms - length ts) 0) d 0 ∙ getD-replicate (maxTerms - length ts) d 0 0 (omega arith));
       }
 
   pub sound-for : (ts : List ℕ) → Good m ts → isSound (faultOf (holding m ts)) ≡ true
   sound-for ts g = is-sound (holding m ts) (holding-sound ts g)
 
   -- one term more, in the array
-  stored : (ts : List ℕ) (t : ℕ) → length ts < 128 → set (padded ts) (length ts) t ≡ padded (ts ++ (t ∷ []))
+  stored : (ts : List ℕ) (t : ℕ) → length ts < maxTerms → set (padded ts) (length ts) t ≡ padded (ts ++ (t ∷ []))
   stored ts t h =
-      let k : ℕ = 128 - length ts - 1 in
-      let e : 128 - length ts ≡ suc k = omega arith in
+      let k : ℕ = maxTerms - length ts - 1 in
+      let e : maxTerms - length ts ≡ suc k = omega arith in
       let l : length (ts ++ (t ∷ [])) ≡ length ts + 1 = length-append ts (t ∷ []) in
-      let d : 128 - length (ts ++ (t ∷ [])) ≡ k = omega arith in
+      let d : maxTerms - length (ts ++ (t ∷ [])) ≡ k = omega arith in
       ap (λ (z : ℕ). set (ts ++ replicate z 0) (length ts) t) e
       ∙ set-at ts 0 (replicate k 0) t (length ts) refl
       ∙ sym (append-assoc ts (t ∷ []) (replicate k 0))
       ∙ ap (λ (z : ℕ). (ts ++ (t ∷ [])) ++ replicate z 0) (sym d)
 
-  more : (ts : List ℕ) (t : ℕ) → length ts < 128
+  more : (ts : List ℕ) (t : ℕ) → length ts < maxTerms
       → _≡_ {A = Sequence} (record { modulus = m; count = length ts + 1; terms = set (padded ts) (length ts) t }) (holding m (ts ++ (t ∷ [])))
   more ts t h = λ i. record { modulus = m; count = sym (length-append ts (t ∷ [])) i; terms = stored ts t h i }
 
@@ -75,15 +75,15 @@ module _ (m : ℕ) (least : 2 ≤ m) (most : m ≤ maxModulus) where
   push-for : (ts : List ℕ) (t : ℕ) → Good m ts → pushOf (holding m ts) t .sequence ≡ holding m (takes m ts (push t))
   push-for ts t g =
       ⊎-elim
-      (λ (h : length ts < 128). ⊎-elim
-      (λ (k : t < m). rw (lt-ltb t m k, lt-ltb (length ts) 128 h) (kept (push-done (holding m ts) t s h k) ∙ more ts t h))
+      (λ (h : length ts < maxTerms). ⊎-elim
+      (λ (k : t < m). rw (lt-ltb t m k, lt-ltb (length ts) maxTerms h) (kept (push-done (holding m ts) t s h k) ∙ more ts t h))
       (λ (k : m ≤ t). rw (le-ltb t m k) (kept (push-large (holding m ts) t s h k)))
       (lt-or-le t m))
-      (λ (h : 128 ≤ length ts). let full = kept (push-full (holding m ts) t s (omega (arith, g .size))) in ⊎-elim
-      (λ (k : t < m). rw (lt-ltb t m k, le-ltb (length ts) 128 h) full)
+      (λ (h : maxTerms ≤ length ts). let full = kept (push-full (holding m ts) t s (omega (arith, g .size))) in ⊎-elim
+      (λ (k : t < m). rw (lt-ltb t m k, le-ltb (length ts) maxTerms h) full)
       (λ (k : m ≤ t). rw (le-ltb t m k) full)
       (lt-or-le t m))
-      (lt-or-le (length ts) 128)
+      (lt-or-le (length ts) maxTerms)
     where
       s : IsSound (holding m ts)
       s = holding-sound ts g
@@ -98,13 +98,13 @@ module _ (m : ℕ) (least : 2 ≤ m) (most : m ≤ maxModulus) where
   good-more ts t g =
       ⊎-elim
       (λ (k : t < m). ⊎-elim
-      (λ (h : length ts < 128). rw (lt-ltb t m k, lt-ltb (length ts) 128 h) (grown k h))
-      (λ (h : 128 ≤ length ts). rw (lt-ltb t m k, le-ltb (length ts) 128 h) g)
-      (lt-or-le (length ts) 128))
+      (λ (h : length ts < maxTerms). rw (lt-ltb t m k, lt-ltb (length ts) maxTerms h) (grown k h))
+      (λ (h : maxTerms ≤ length ts). rw (lt-ltb t m k, le-ltb (length ts) maxTerms h) g)
+      (lt-or-le (length ts) maxTerms))
       (λ (k : m ≤ t). rw (le-ltb t m k) g)
       (lt-or-le t m)
     where
-      grown : t < m → length ts < 128 → Good m (ts ++ (t ∷ []))
+      grown : t < m → length ts < maxTerms → Good m (ts ++ (t ∷ []))
       grown k h =
           let l : length (ts ++ (t ∷ [])) ≡ length ts + 1 = length-append ts (t ∷ []) in
           record {

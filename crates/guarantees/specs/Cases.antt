@@ -6,6 +6,7 @@ use Prim.Native.Nat.{ℕ, suc, _+_}
 use lib.ListN.{length, replicate}
 use Rattle.lists.specs.Table.{at, tabulate}
 use Rattle.cells.specs.Cell.{cellsFrom, bytesOf}
+use Rattle.sequence.specs.Limits.{maxCells, maxTerms, aBytes, bBytes, profileBytes}
 use Rattle.sequence.specs.declared.Sequence.{Sequence}
 use Rattle.sequence.specs.declared.Refusal.the-variants as R
 use Rattle.sequence.specs.declared.Outcome.the-variants.{Done, Refused}
@@ -34,26 +35,26 @@ pub record Reply : Type 0 where
 unfoldable pub reply : ℕ → List ℕ → ℕ → Reply
 reply m ts l =
     let s = after m ts in
-    let r = reportOf s (zeros 258) (zeros 256) in
+    let r = reportOf s (zeros aBytes) (zeros bBytes) in
     record {
       answer = r;
-      a = cellsFrom (written r (aBuffer s) (zeros 258)) 0 (suc l);
-      b = cellsFrom (written r (bBuffer s) (zeros 256)) 0 l;
+      a = cellsFrom (written r (aBuffer s) (zeros aBytes)) 0 (suc l);
+      b = cellsFrom (written r (bBuffer s) (zeros bBytes)) 0 l;
     }
 
 -- the first n + 1 cells of the profile of n terms
 unfoldable pub lengths : ℕ → List ℕ → List ℕ
-lengths m ts = let s = after m ts in cellsFrom (filled (profileOf s (zeros 258)) (profileBuffer s) (zeros 258)) 0 (suc (length ts))
+lengths m ts = let s = after m ts in cellsFrom (filled (profileOf s (zeros profileBytes)) (profileBuffer s) (zeros profileBytes)) 0 (suc (length ts))
 
 -- coefficients as a lent buffer, and a query
 abbrev pub aOf : List ℕ → List ℕ
-aOf xs = bytesOf (tabulate 129 (at xs))
+aOf xs = bytesOf (tabulate maxCells (at xs))
 
 abbrev pub bOf : List ℕ → List ℕ
-bOf xs = bytesOf (tabulate 128 (at xs))
+bOf xs = bytesOf (tabulate maxTerms (at xs))
 
 abbrev pub queryOf : ℕ → List ℕ → List ℕ
-queryOf m ts = bytesOf (m ∷ length ts ∷ tabulate 128 (at ts))
+queryOf m ts = bytesOf (m ∷ length ts ∷ tabulate maxTerms (at ts))
 
 -- the first cells that running gives
 unfoldable pub run : ℕ → List ℕ → List ℕ → ℕ → ℕ → List ℕ

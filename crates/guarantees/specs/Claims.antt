@@ -3,7 +3,7 @@
 use mathlib.Core.Path.{_≡_}
 use mathlib.Core.Logic.{_⊎_}
 use mathlib.Core.List.{List}
-use Prim.Native.Nat.{ℕ, zero, _+_, _%_, _≤_, _<_}
+use Prim.Native.Nat.{ℕ, zero, _%_, _≤_, _<_}
 use lib.ListN.{length, take, drop}
 use Rattle.lists.specs.Table.{at, tabulate}
 use Rattle.cells.specs.Cell.{cellAt, bytesOf}
@@ -14,7 +14,7 @@ use Rattle.recurrence.specs.Register.{pairOf}
 use Rattle.sequence.specs.declared.Sequence.{Sequence}
 use Rattle.sequence.specs.declared.Outcome.the-variants.{Done}
 use Rattle.sequence.specs.declared.Reported.the-variants.{Length}
-use Rattle.sequence.specs.Limits.{maxModulus, maxTerms, aBytes, bBytes, profileBytes}
+use Rattle.sequence.specs.Limits.{maxModulus, maxTerms, maxCells, aBytes, bBytes, profileBytes}
 use Rattle.sequence.specs.Rules.{openOf, sequenceOf, checkOf}
 use Rattle.sequence.specs.Report.{reportOf, aBuffer, bBuffer, written, profileOf, profileBuffer, filled}
 use Rattle.catalogue.specs.declared.LookedUp.the-variants.{Found, Made}
@@ -27,7 +27,7 @@ pub record Shows (m : ℕ) (ts : List ℕ) (s : Sequence) (a b cells : List ℕ)
   pub reported : reportOf s a b ≡ Length (T.register m ts (length ts) .length)
   pub profiled : profileOf s cells ≡ Done
   -- the register written is the one that the steps, joined by remainders, give for the terms
-  pub a-cells : written (reportOf s a b) (aBuffer s) a ≡ bytesOf (tabulate (maxTerms + 1) (at (T.register m ts (length ts) .a)))
+  pub a-cells : written (reportOf s a b) (aBuffer s) a ≡ bytesOf (tabulate maxCells (at (T.register m ts (length ts) .a)))
   pub b-cells : written (reportOf s a b) (bBuffer s) b ≡ bytesOf (tabulate maxTerms (at (T.register m ts (length ts) .b)))
   -- cell k of the profile is the least length for the first k terms, and zero past the last
   pub least : (k : ℕ) → k ≤ length ts → Least m (at ts) k (cellAt (filled (profileOf s cells) (profileBuffer s) cells) k)

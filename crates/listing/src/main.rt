@@ -1,10 +1,17 @@
 // The listing: queries on standard input, a header and a line for each on standard output.
+use catalogue::A_CELL;
+use catalogue::LENGTH_CELL;
+use catalogue::RECORD_BYTES;
 use libc::STDIN_FILENO;
 use libc::STDOUT_FILENO;
 use sequence::Outcome;
+use sequence::QUERY_BYTES;
+use steps::CELLS;
 ghost use mathlib.Core.Path.{_≡_};
-ghost use Prim.Native.Nat.{_≤_};
+ghost use Prim.Native.Nat.{_<_};
 ghost use lib.ListN.{length};
+ghost use Rattle.sequence.specs.Limits.{maxCells};
+ghost use Rattle.catalogue.specs.Rules.{recordBytes};
 
 fn number(n: u32) {
     io::print_decimal(STDOUT_FILENO, n as u64);
@@ -22,26 +29,26 @@ fn refused(n: u64) {
 
 // The order that the listing shows: the length of the register.
 fn order(entry: &[u8]) -> u32
-    requires { ⌜ length (now entry) ≡ 776 ⌝ }
+    requires { ⌜ length (now entry) ≡ recordBytes ⌝ }
 {
-    cells::cell(entry, 130)
+    cells::cell(entry, LENGTH_CELL)
 }
 
 // Coefficient a_i, behind a comma.
 fn another(entry: &[u8], i: usize)
-    requires { ⌜ (length (now entry) ≡ 776) × (i ≤ 128) ⌝ }
+    requires { ⌜ (length (now entry) ≡ recordBytes) × (i < maxCells) ⌝ }
 {
     text(b",");
-    number(cells::cell(entry, 131 + i));
+    number(cells::cell(entry, A_CELL + i));
 }
 
 // a_0 .. a_l.
 fn coefficients(entry: &[u8], l: u32)
-    requires { ⌜ length (now entry) ≡ 776 ⌝ }
+    requires { ⌜ length (now entry) ≡ recordBytes ⌝ }
 {
-    number(cells::cell(entry, 131));
+    number(cells::cell(entry, A_CELL));
     let mut i: usize = 1;
-    while i < 129 {
+    while i < CELLS {
         if (l as usize) < i {
             return;
         }
@@ -51,7 +58,7 @@ fn coefficients(entry: &[u8], l: u32)
 }
 
 fn line(entry: &[u8])
-    requires { ⌜ length (now entry) ≡ 776 ⌝ }
+    requires { ⌜ length (now entry) ≡ recordBytes ⌝ }
 {
     number(cells::cell(entry, 0));
     text(b" ");
@@ -65,7 +72,7 @@ fn line(entry: &[u8])
 }
 
 fn one(query: &[u8]) {
-    let mut out = [0u8; 776];
+    let mut out = [0u8; RECORD_BYTES];
     let o = catalogue::synthesize(query, &mut out);
     match o {
         Outcome::Refused(r) => refused(sequence::number(r)),
@@ -75,7 +82,7 @@ fn one(query: &[u8]) {
 
 // Reads one query; says whether to go on.
 fn next() -> bool {
-    let mut query = [0u8; 260];
+    let mut query = [0u8; QUERY_BYTES];
     let n = io::read_full(STDIN_FILENO, &mut query);
     if n == 0 {
         return false;

@@ -4,15 +4,19 @@
 // quintuples with spaces. One place differs: at k = 0 Table 2 has the f of the longer version of the steps, which is not the one proved,
 // and a star stands for it.
 use libc::STDOUT_FILENO;
+use steps::CELLS;
+use steps::ROWS;
 use steps::Ring;
+use steps::TERMS;
 ghost use mathlib.Core.Path.{_≡_};
 ghost use Prim.Native.Nat.{ℕ, _%_, _≤_, _<_};
 ghost use Rattle.lists.specs.Table.{at};
 ghost use Rattle.recurrence.specs.Polynomial.{conv};
+ghost use Rattle.steps.specs.Sizes.{maxTerms, maxCells, maxRows};
 ghost use Rattle.steps.specs.Run.{Below, Setting};
 
 // The number of terms.
-const TERMS: usize = 5;
+const COUNT: usize = 5;
 
 fn text(s: &[u8]) {
     io::write_all(STDOUT_FILENO, s);
@@ -35,10 +39,10 @@ fn place(k: usize, eta: usize) {
 }
 
 // How many coefficients are printed: all up to the last that is not 0, and at least one.
-fn shown(x: &[u32; 129]) -> usize
-    ensures { λ r. ⌜ r ≤ 129 ⌝ }
+fn shown(x: &[u32; CELLS]) -> usize
+    ensures { λ r. ⌜ r ≤ maxCells ⌝ }
 {
-    let mut n: usize = 129;
+    let mut n: usize = CELLS;
     while 1 < n {
         if x[n - 1] != 0 {
             return n;
@@ -49,7 +53,7 @@ fn shown(x: &[u32; 129]) -> usize
 }
 
 // Coefficients, with commas between.
-fn polynomial(x: &[u32; 129]) {
+fn polynomial(x: &[u32; CELLS]) {
     let n = shown(x);
     value(x[0]);
     let mut i: usize = 1;
@@ -61,12 +65,12 @@ fn polynomial(x: &[u32; 129]) {
 }
 
 // b from a: the first l coefficients of the product of s and a, modulo q.
-fn second(s: &[u32; 128], a: &[u32; 129], l: usize, q: u32) -> [u32; 129]
-    requires { ⌜ (l ≤ 128) × (0 < q) × Below 129 65536 (now a) × Below 128 65536 (now s) ⌝ }
+fn second(s: &[u32; TERMS], a: &[u32; CELLS], l: usize, q: u32) -> [u32; CELLS]
+    requires { ⌜ (l ≤ maxTerms) × (0 < q) × Below maxCells 65536 (now a) × Below maxTerms 65536 (now s) ⌝ }
     ensures { λ r. ⌜ ((i : ℕ) → i < l → at r i ≡ conv (at (now (s .entry))) (at (now (a .entry))) i % q)
         × ((i : ℕ) → l ≤ i → at r i ≡ 0) ⌝ }
 {
-    let mut b = [0u32; 129];
+    let mut b = [0u32; CELLS];
     let mut i: usize = 0;
     while i < l {
         b[i] = steps::coefficient(a, s, i, i, q);
@@ -76,8 +80,8 @@ fn second(s: &[u32; 128], a: &[u32; 129], l: usize, q: u32) -> [u32; 129]
 }
 
 // A line of Table 1: a and b of row eta before step k.
-fn pair(k: usize, eta: usize, s: &[u32; 128], a: &[u32; 129], l: usize, q: u32)
-    requires { ⌜ (l ≤ 128) × (0 < q) × Below 129 65536 (now a) × Below 128 65536 (now s) ⌝ }
+fn pair(k: usize, eta: usize, s: &[u32; TERMS], a: &[u32; CELLS], l: usize, q: u32)
+    requires { ⌜ (l ≤ maxTerms) × (0 < q) × Below maxCells 65536 (now a) × Below maxTerms 65536 (now s) ⌝ }
 {
     place(k, eta);
     polynomial(a);
@@ -87,13 +91,13 @@ fn pair(k: usize, eta: usize, s: &[u32; 128], a: &[u32; 129], l: usize, q: u32)
     text(b"\n");
 }
 
-fn pairs(k: usize, s: &[u32; 128], ring: Ring)
-    requires { ⌜ Setting ring (now s) × (k < 128) ⌝ }
+fn pairs(k: usize, s: &[u32; TERMS], ring: Ring)
+    requires { ⌜ Setting ring (now s) × (k < maxTerms) ⌝ }
 {
-    let mut cur = [[0u32; 129]; 15];
-    let mut len = [0usize; 15];
-    let mut us = [0usize; 15];
-    let mut ts = [0u32; 15];
+    let mut cur = [[0u32; CELLS]; ROWS];
+    let mut len = [0usize; ROWS];
+    let mut us = [0usize; ROWS];
+    let mut ts = [0u32; ROWS];
     steps::rows(s, k, ring, &mut cur, &mut len, &mut us, &mut ts);
     let mut i: usize = 0;
     while i < ring.e {
@@ -103,8 +107,8 @@ fn pairs(k: usize, s: &[u32; 128], ring: Ring)
 }
 
 // f and the case.
-fn case(len: &[usize; 15], u: usize, e: usize)
-    requires { ⌜ e ≤ 15 ⌝ }
+fn case(len: &[usize; ROWS], u: usize, e: usize)
+    requires { ⌜ e ≤ maxRows ⌝ }
 {
     if e <= u {
         text(b"* I");
@@ -120,10 +124,10 @@ fn case(len: &[usize; 15], u: usize, e: usize)
 }
 
 // What step k sees of a row, and what it does to it. There is no step after the last term.
-fn seen(k: usize, len: &[usize; 15], u: usize, t: u32, e: usize)
-    requires { ⌜ e ≤ 15 ⌝ }
+fn seen(k: usize, len: &[usize; ROWS], u: usize, t: u32, e: usize)
+    requires { ⌜ e ≤ maxRows ⌝ }
 {
-    if k == TERMS {
+    if k == COUNT {
         text(b"* * * *");
         return;
     }
@@ -139,8 +143,8 @@ fn seen(k: usize, len: &[usize; 15], u: usize, t: u32, e: usize)
 }
 
 // A line of Table 2: l, u, theta, f and the case of row eta at step k.
-fn quintuple(k: usize, eta: usize, len: &[usize; 15], u: usize, t: u32, e: usize)
-    requires { ⌜ (eta < e) × (e ≤ 15) ⌝ }
+fn quintuple(k: usize, eta: usize, len: &[usize; ROWS], u: usize, t: u32, e: usize)
+    requires { ⌜ (eta < e) × (e ≤ maxRows) ⌝ }
 {
     place(k, eta);
     number(len[eta]);
@@ -149,13 +153,13 @@ fn quintuple(k: usize, eta: usize, len: &[usize; 15], u: usize, t: u32, e: usize
     text(b"\n");
 }
 
-fn quintuples(k: usize, s: &[u32; 128], ring: Ring)
-    requires { ⌜ Setting ring (now s) × (k < 128) ⌝ }
+fn quintuples(k: usize, s: &[u32; TERMS], ring: Ring)
+    requires { ⌜ Setting ring (now s) × (k < maxTerms) ⌝ }
 {
-    let mut cur = [[0u32; 129]; 15];
-    let mut len = [0usize; 15];
-    let mut us = [0usize; 15];
-    let mut ts = [0u32; 15];
+    let mut cur = [[0u32; CELLS]; ROWS];
+    let mut len = [0usize; ROWS];
+    let mut us = [0usize; ROWS];
+    let mut ts = [0u32; ROWS];
     steps::rows(s, k, ring, &mut cur, &mut len, &mut us, &mut ts);
     let mut i: usize = 0;
     while i < ring.e {
@@ -164,25 +168,25 @@ fn quintuples(k: usize, s: &[u32; 128], ring: Ring)
     }
 }
 
-fn tables(s: &[u32; 128], ring: Ring)
+fn tables(s: &[u32; TERMS], ring: Ring)
     requires { ⌜ Setting ring (now s) ⌝ }
 {
     text(b"Table 1\nk eta a b\n");
     let mut k: usize = 0;
-    while k <= TERMS {
+    while k <= COUNT {
         pairs(k, s, ring);
         k += 1;
     }
     text(b"Table 2\nk eta l u theta f case\n");
     k = 0;
-    while k <= TERMS {
+    while k <= COUNT {
         quintuples(k, s, ring);
         k += 1;
     }
 }
 
 fn main() {
-    let mut s = [0u32; 128];
+    let mut s = [0u32; TERMS];
     s[0] = 6;
     s[1] = 3;
     s[2] = 1;

@@ -5,9 +5,11 @@ use catalogue::LookedUp;
 use libc::STDIN_FILENO;
 use libc::STDOUT_FILENO;
 use sequence::Outcome;
+use sequence::QUERY_BYTES;
 use sequence::Refusal;
 use sequence::Reported;
 use sequence::Sequence;
+use steps::TERMS;
 
 // Where an FNV-1a hash of 32 bits starts.
 const START: u32 = 2166136261;
@@ -106,7 +108,7 @@ fn hash_sequence(s: Sequence) -> u32 {
     let mut h = mixed_cell(mixed_cell(START, s.modulus), s.count);
     let terms = s.terms;
     let mut i: usize = 0;
-    while i < 128 {
+    while i < TERMS {
         h = mixed_cell(h, terms[i]);
         i += 1;
     }
@@ -320,11 +322,11 @@ fn look_up(c: Call) -> bool {
 }
 
 fn forge(s: Sequence, c: Call) -> Turn {
-    if c.x != 260 {
+    if c.x as usize != QUERY_BYTES {
         text(b"script bad forge\n");
         return stopped(s);
     }
-    let mut query = [0u8; 260];
+    let mut query = [0u8; QUERY_BYTES];
     if is_cut(&mut query) {
         return kept(s, false);
     }

@@ -14,7 +14,7 @@ use borrow.Author.Tests.{eqb-true, leb-true, ltb-true}
 use Rattle.lists.specs.Choice.{pick, both}
 use Rattle.lists.specs.Search.{first}
 use Rattle.lists.proofs.Search.{both-left, both-right}
-use Rattle.residue.specs.Factors.{leastDivisor}
+use Rattle.residue.specs.Factors.{leastDivisor, divisorsEnd}
 use Rattle.residue.proofs.Factors.{IsLeastDivisor, is-least-divisor}
 
 -- ---- one entry
@@ -61,7 +61,7 @@ large x n t h = go (ltb x 64) refl t
     go true e t′ = absurd (omega (arith, ltb-true x 64 e))
     go false e t′ = eqb-true x n t′
 
-module _ (n x : ℕ) (pos : zero < n) (small : n < 4096) (t : both (leb 2 x) (divides n x) ≡ true) where
+module _ (n x : ℕ) (pos : zero < n) (small : n < divisorsEnd) (t : both (leb 2 x) (divides n x) ≡ true) where
   two : 2 ≤ x
   two = leb-true 2 x (both-left (leb 2 x) (divides n x) t)
 
@@ -98,7 +98,7 @@ module _ (n x : ℕ) (pos : zero < n) (small : n < 4096) (t : both (leb 2 x) (di
   passes = record { big = two; most = le-of-dvd pos (dvd-of-mod-eq-zero x whole); divides = whole; none = none-below }
 
 -- an entry that passes is the least divisor
-entry-is : (n x : ℕ) → n < 4096 → entry n x ≡ true → x ≡ leastDivisor n
+entry-is : (n x : ℕ) → n < divisorsEnd → entry n x ≡ true → x ≡ leastDivisor n
 unfolding leastDivisor first
 entry-is zero x h t = eqb-true x zero t
 entry-is (suc zero) x h t = eqb-true x 1 t
@@ -120,6 +120,6 @@ from f (x ∷ xs) i t (suc k) h =
     ∙ from f xs (suc i) (both-right (f i x) (allFrom f (suc i) xs) t) k (le-of-suc-le-suc h)
 
 -- a table whose entries pass has the least divisor at each place
-pub table-rule : (xs : List ℕ) (n : ℕ) → n < 4096 → length xs ≡ 4096 → allFrom entry zero xs ≡ true → getD xs n zero ≡ leastDivisor n
+pub table-rule : (xs : List ℕ) (n : ℕ) → n < divisorsEnd → length xs ≡ divisorsEnd → allFrom entry zero xs ≡ true → getD xs n zero ≡ leastDivisor n
 table-rule xs n h e t =
     entry-is n (getD xs n zero) h (ap (λ (m : ℕ). entry m (getD xs n zero)) (sym (zero-add n)) ∙ from entry xs zero t n (omega arith))

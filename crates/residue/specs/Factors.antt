@@ -12,6 +12,10 @@ use Rattle.residue.specs.Valuation.{valuation}
 unfoldable pub leastDivisor : ℕ → ℕ
 leastDivisor n = first n (λ d. both (leb 2 d) (eqb (n % d) zero))
 
+-- the numbers whose least divisors are at hand stop before this one
+abbrev pub divisorsEnd : ℕ
+divisorsEnd = 4096
+
 pub record PrimePower : Type 0 where
   pub prime : ℕ
   pub exponent : ℕ

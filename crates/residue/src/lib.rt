@@ -4,7 +4,7 @@ ghost use Prim.Native.Nat.{_+_, _*_, _/_, _%_, _^_, _≤_, _<_};
 ghost use Rattle.residue.specs.Congruence.{neg};
 ghost use Rattle.residue.specs.Units.{Coprime, Bezout, inverse};
 ghost use Rattle.residue.specs.Valuation.{valuation, cofactor};
-ghost use Rattle.residue.specs.Factors.{leastDivisor, leastPower, value};
+ghost use Rattle.residue.specs.Factors.{divisorsEnd, leastDivisor, leastPower, value};
 ghost use Rattle.residue.specs.Remainders.{joined, two};
 ghost use Rattle.residue.specs.Reduction.{scaleOf};
 
@@ -148,7 +148,7 @@ pub fn reduce(x: u32, q: u32, m: u64) -> u32
 
 // The least prime divisor of n, from the table. The array is made anew at each call: call it once for a modulus, not for each term.
 pub fn least_divisor(n: usize) -> u16
-    requires { do ⌜ n < (← ⟦LIMIT⟧) ⌝ }
+    requires { ⌜ n < divisorsEnd ⌝ }
     ensures { λ r. ⌜ r ≡ leastDivisor n ⌝ }
 {
     LEAST[n]
@@ -164,7 +164,7 @@ pub struct Factor {
 
 // Splits the power of its least prime off m. The table gives the prime, and weighing m by it the exponent and the rest.
 pub fn split(m: u32) -> Factor
-    requires { do ⌜ (2 ≤ m) × (m < (← ⟦LIMIT⟧)) ⌝ }
+    requires { ⌜ (2 ≤ m) × (m < divisorsEnd) ⌝ }
     ensures { λ r. ⌜ (r .prime ≡ leastPower m .prime) × (r .exponent ≡ leastPower m .exponent)
         × (r .value ≡ value (leastPower m)) × (r .rest ≡ m / value (leastPower m)) ⌝ }
 {

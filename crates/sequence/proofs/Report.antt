@@ -13,33 +13,34 @@ use Rattle.lists.proofs.Table.{length-tabulate}
 use Rattle.lists.proofs.Search.{lt-or-le}
 use Rattle.synthesis.specs.declared.Synthesis.{Synthesis}
 use Rattle.synthesis.specs.Synthesis.{synthesisOf}
+use Rattle.sequence.specs.Limits.{maxCells, maxTerms, aBytes, bBytes, registerBytes}
 use Rattle.sequence.specs.declared.Sequence.{Sequence}
 use Rattle.sequence.specs.Rules.{IsSound}
 
 module _ (x : Synthesis) (s : Sequence) (h : x ≡ synthesisOf (s .modulus) (s .terms) (s .count)) where
-  pub long-a : length (x .a) ≡ 129
+  pub long-a : length (x .a) ≡ maxCells
   unfolding synthesisOf
-  long-a = ap (λ (z : Synthesis). length (z .a)) h ∙ length-tabulate 129 _
+  long-a = ap (λ (z : Synthesis). length (z .a)) h ∙ length-tabulate maxCells _
 
-  pub long-b : length (x .b) ≡ 128
+  pub long-b : length (x .b) ≡ maxTerms
   unfolding synthesisOf
-  long-b = ap (λ (z : Synthesis). length (z .b)) h ∙ length-tabulate 128 _
+  long-b = ap (λ (z : Synthesis). length (z .b)) h ∙ length-tabulate maxTerms _
 
-  pub long-lengths : length (x .lengths) ≡ 129
+  pub long-lengths : length (x .lengths) ≡ maxCells
   unfolding synthesisOf
-  long-lengths = ap (λ (z : Synthesis). length (z .lengths)) h ∙ length-tabulate 129 _
+  long-lengths = ap (λ (z : Synthesis). length (z .lengths)) h ∙ length-tabulate maxCells _
 
 -- every cell of a sound sequence is small
-pub small-terms : (s : Sequence) → IsSound s → (i : ℕ) → i < 128 → at (s .terms) i < 65536
+pub small-terms : (s : Sequence) → IsSound s → (i : ℕ) → i < maxTerms → at (s .terms) i < 65536
 small-terms s h i l = go (lt-or-le i (s .count))
   where
     go : (i < s .count) ⊎ (s .count ≤ i) → at (s .terms) i < 65536
     go (inl k) = omega (arith, h .below i k, h .most)
     go (inr k) = omega (arith, h .zeros i k l)
 
--- x in the first 258 of 514 places, then y in the 256 after them
-pub two-parts : (x y out : List ℕ) → length x ≡ 258 → length out ≡ 514 → putMid 258 256 (x ++ drop 258 out) y ≡ x ++ y
+-- x where a stands, then y where b does
+pub two-parts : (x y out : List ℕ) → length x ≡ aBytes → length out ≡ registerBytes → putMid aBytes bBytes (x ++ drop aBytes out) y ≡ x ++ y
 two-parts x y out hx ho =
-    ap₂ (λ (t d : List ℕ). t ++ (y ++ drop 256 d)) (take-at x (drop 258 out) 258 hx) (drop-at x (drop 258 out) 258 hx)
-    ∙ ap (λ (d : List ℕ). x ++ (y ++ d)) (drop-of-length-le (drop 258 out) {i = 256} (omega (arith, length-drop 258 out)))
+    ap₂ (λ (t d : List ℕ). t ++ (y ++ drop bBytes d)) (take-at x (drop aBytes out) aBytes hx) (drop-at x (drop aBytes out) aBytes hx)
+    ∙ ap (λ (d : List ℕ). x ++ (y ++ d)) (drop-of-length-le (drop aBytes out) {i = bBytes} (omega (arith, length-drop aBytes out)))
     ∙ ap (λ (d : List ℕ). x ++ d) (append-nil y)

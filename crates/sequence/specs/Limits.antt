@@ -1,13 +1,19 @@
 -- The limits and the sizes of buffers in bytes, each named once.
 -- Assumes nothing.
 use Prim.Native.Nat.{ℕ}
+use Rattle.steps.specs.Sizes as Sizes
 
 -- moduli go from 2 to this one
 abbrev pub maxModulus : ℕ
 maxModulus = 4095
 
+-- the arrays have no more places for terms
 abbrev pub maxTerms : ℕ
-maxTerms = 128
+maxTerms = Sizes.maxTerms
+
+-- nor for coefficients, and for the lengths of a profile
+abbrev pub maxCells : ℕ
+maxCells = Sizes.maxCells
 
 -- modulus, count and the terms, two bytes each
 abbrev pub queryBytes : ℕ
@@ -23,3 +29,7 @@ profileBytes = 258
 -- b_0 .. b_127
 abbrev pub bBytes : ℕ
 bBytes = 256
+
+-- a, and b behind it
+abbrev pub registerBytes : ℕ
+registerBytes = 514

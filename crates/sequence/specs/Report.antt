@@ -1,7 +1,7 @@
 -- What the register and the profile of a sequence reply and write.
 -- Assumes nothing.
 use mathlib.Core.List.{List}
-use Prim.Native.Nat.{ℕ, _+_}
+use Prim.Native.Nat.{ℕ}
 use lib.Dec.{eqb}
 use lib.ListN.{length}
 use Rattle.lists.specs.Choice.{pick}
@@ -15,7 +15,7 @@ use Rattle.sequence.specs.declared.Outcome.{Outcome}
 use Rattle.sequence.specs.declared.Outcome.the-variants as O
 use Rattle.sequence.specs.declared.Reported.{Reported}
 use Rattle.sequence.specs.declared.Reported.the-variants as P
-use Rattle.sequence.specs.Limits.{maxTerms, aBytes, bBytes, profileBytes}
+use Rattle.sequence.specs.Limits.{maxTerms, maxCells, aBytes, bBytes, profileBytes}
 use Rattle.sequence.specs.Rules.{faultOf, isSound}
 
 -- the register of a sequence: of its first `count` terms
@@ -24,14 +24,14 @@ registerOf s = register (s .modulus) (s .terms) (s .count)
 
 -- its coefficients as bytes: a_0 .. a_128 and b_0 .. b_127
 abbrev pub aBuffer : Sequence → List ℕ
-aBuffer s = bytesOf (tabulate (maxTerms + 1) (at (registerOf s .a)))
+aBuffer s = bytesOf (tabulate maxCells (at (registerOf s .a)))
 
 abbrev pub bBuffer : Sequence → List ℕ
 bBuffer s = bytesOf (tabulate maxTerms (at (registerOf s .b)))
 
 -- the linear complexity of the first k terms, for k up to the count; zero past it
 abbrev pub profileBuffer : Sequence → List ℕ
-profileBuffer s = bytesOf (tabulate (maxTerms + 1) (lengthAt (s .modulus) (s .terms) (s .count)))
+profileBuffer s = bytesOf (tabulate maxCells (lengthAt (s .modulus) (s .terms) (s .count)))
 
 -- 5 (a, b), 21, in this order; else the length
 unfoldable pub reportOf : Sequence → List ℕ → List ℕ → Reported

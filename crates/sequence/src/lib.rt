@@ -1,5 +1,6 @@
 // A sequence of terms modulo m (the paper's reading): opening one, pushing a term, its register and its profile; what is wrong with one,
 // and the query that writes one down.
+use steps::TERMS;
 use synthesis::Synthesis;
 ghost use mathlib.Core.Path.{_≡_};
 ghost use Prim.Native.Nat.{_≤_, _<_};
@@ -7,6 +8,7 @@ ghost use lib.ListN.{length};
 ghost use mathlib.Core.List.{_++_};
 ghost use Rattle.cells.specs.Cell.{bytesOf};
 ghost use Rattle.synthesis.specs.Synthesis.{synthesisOf};
+ghost use Rattle.sequence.specs.Limits.{maxTerms, maxCells, queryBytes, registerBytes};
 ghost use Rattle.sequence.specs.Report.{reportOf, written, aBuffer, bBuffer, profileOf, filled, profileBuffer};
 ghost use Rattle.sequence.specs.Rules.{number, IsSound, firstLarge, zeroFrom, faultOf, refusalOf, isSound, openOf, pushOf, sequenceOf, checkOf};
 
@@ -23,11 +25,14 @@ pub const B_BYTES: usize = 256;
 
 pub const PROFILE_BYTES: usize = 258;
 
+// a, and b behind it.
+const REGISTER_BYTES: usize = 514;
+
 // A reading: terms past the count are zero.
 pub struct Sequence {
     pub modulus: u32,
     pub count: u32,
-    pub terms: [u32; 128],
+    pub terms: [u32; TERMS],
 }
 
 // Why a call did nothing. `Rules.number` has the paper's number of each.
@@ -79,7 +84,7 @@ pub enum Fault {
 pub fn open(modulus: u32) -> Opened
     ensures { λ r. ⌜ r ≡ openOf modulus ⌝ }
 {
-    let terms = [0u32; 128];
+    let terms = [0u32; TERMS];
     if modulus < 2 {
         let zeros = Sequence {
             modulus: 0,
@@ -114,8 +119,8 @@ pub fn open(modulus: u32) -> Opened
 }
 
 // The first of n places whose term is not below the modulus, or n.
-fn first_large(terms: &[u32; 128], n: u32, modulus: u32) -> u32
-    requires { ⌜ (n ≤ 128) × (length (now terms) ≡ 128) ⌝ }
+fn first_large(terms: &[u32; TERMS], n: u32, modulus: u32) -> u32
+    requires { ⌜ (n ≤ maxTerms) × (length (now terms) ≡ maxTerms) ⌝ }
     ensures { λ r. ⌜ r ≡ firstLarge modulus (now (terms .entry)) n ⌝ }
 {
     let mut i: u32 = 0;
@@ -129,12 +134,12 @@ fn first_large(terms: &[u32; 128], n: u32, modulus: u32) -> u32
 }
 
 // Whether every term from place n on is zero.
-fn zero_from(terms: &[u32; 128], n: u32) -> bool
-    requires { ⌜ (n ≤ 128) × (length (now terms) ≡ 128) ⌝ }
+fn zero_from(terms: &[u32; TERMS], n: u32) -> bool
+    requires { ⌜ (n ≤ maxTerms) × (length (now terms) ≡ maxTerms) ⌝ }
     ensures { λ r. ⌜ r ≡ zeroFrom n (now (terms .entry)) ⌝ }
 {
     let mut i = n as usize;
-    while i < 128 {
+    while i < TERMS {
         if terms[i] != 0 {
             return false;
         }
@@ -231,12 +236,12 @@ pub fn push(s: Sequence, term: u32) -> Pushed
 
 // The sequence that a query of 260 bytes writes down: modulus, count, 128 terms.
 pub fn load(query: &[u8]) -> Sequence
-    requires { ⌜ length (now query) ≡ 260 ⌝ }
+    requires { ⌜ length (now query) ≡ queryBytes ⌝ }
     ensures { λ r. ⌜ r ≡ sequenceOf (now (query .entry)) ⌝ }
 {
-    let mut terms = [0u32; 128];
+    let mut terms = [0u32; TERMS];
     let mut i: usize = 0;
-    while i < 128 {
+    while i < TERMS {
         terms[i] = cells::cell(query, 2 + i);
         i += 1;
     }
@@ -290,13 +295,13 @@ pub fn solve(s: Sequence) -> Synthesis
 
 // Writes a to 258 bytes and b to the 256 after them: how a register stands in a record.
 pub fn write_register(x: Synthesis, out: &mut [u8])
-    requires { ⌜ (length (x .a) ≡ 129) × (length (x .b) ≡ 128) × (length (now out) ≡ 514) ⌝ }
+    requires { ⌜ (length (x .a) ≡ maxCells) × (length (x .b) ≡ maxTerms) × (length (now out) ≡ registerBytes) ⌝ }
     ensures { λ _. ⌜ now (out .exit) ≡ bytesOf (x .a) ++ bytesOf (x .b) ⌝ }
 {
     let a = x.a;
     let b = x.b;
-    cells::write(&mut out[0..258], &a);
-    cells::write(&mut out[258..514], &b);
+    cells::write(&mut out[0..A_BYTES], &a);
+    cells::write(&mut out[A_BYTES..REGISTER_BYTES], &b);
 }
 
 // Writes the shortest register of the terms, a to 129 cells and b to 128, and replies its length.

@@ -15,6 +15,7 @@ use Rattle.residue.proofs.Reduction.{product-low}
 use Rattle.recurrence.specs.Polynomial.{conv, up}
 use Rattle.recurrence.proofs.Series.{summand, conv-comm, conv-sum, shift-below, shift-from}
 use Rattle.recurrence.proofs.Polynomial.{at-up}
+use Rattle.steps.specs.Sizes.{maxCells, maxTerms}
 use Rattle.steps.specs.Run.{Below}
 use Rattle.steps.specs.Passes.{Clear, Added}
 
@@ -26,7 +27,7 @@ sum-stop f g k l h z =
     sym (sumTo-cut (suc k) (suc l) (summand f g k) (omega arith) (λ i a b. ap (λ (x : ℕ). x * g (k - i)) (z i a (omega arith)) ∙ omega arith))
     ∙ sym (conv-sum f g k) ∙ conv-comm f g k
 
-module _ (f g : ℕ → ℕ) (k : ℕ) (hf : (i : ℕ) → i < 129 → f i < 65536) (hg : (i : ℕ) → i < 128 → g i < 65536) (h : k < 128) where
+module _ (f g : ℕ → ℕ) (k : ℕ) (hf : (i : ℕ) → i < maxCells → f i < 65536) (hg : (i : ℕ) → i < maxTerms → g i < 65536) (h : k < maxTerms) where
   pub summand-low : (i : ℕ) → i ≤ k → summand f g k i ≤ 4294836225
   summand-low i l = product-low (f i) (g (k - i)) (hf i (omega arith)) (hg (k - i) (omega arith))
 

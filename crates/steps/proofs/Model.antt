@@ -23,6 +23,7 @@ use Rattle.recurrence.proofs.Pairs.{conv-cong}
 use Rattle.recurrence.proofs.Polynomial.{at-combine, at-up}
 use Rattle.recurrence.proofs.Steps.{d-at, u-at, θ-at, g-at, L-at, olderAt, row-start, older-kept, older-grown, next-stays, next-added, next-cancelled}
 use Rattle.recurrence.proofs.Theorem.{qp, d-lt, reduced, start-length, length-le, past-a, d-of-a, length-stays, length-kept, length-grows}
+use Rattle.steps.specs.Sizes.{maxCells, maxTerms, maxRows}
 use Rattle.steps.specs.declared.Ring.{Ring}
 use Rattle.steps.specs.Run.{Below, Setting}
 use Rattle.steps.specs.Passes.{Shape, Starting, nextOf, nextAt, Planned, Stocked, Changing, Memory, Settled, Settling, Grows}
@@ -55,15 +56,15 @@ module _ (ring : Ring) (S : List ℕ) (st : Setting ring S) where
     pub len-low : (len : List ℕ) → Lens ring S k len → (η : ℕ) → η < e → at len η ≤ k
     len-low len ls η h = omega (arith, ls .sizes η h, length-le p e (st .prime) (st .pos) S η k h)
 
-    pub row-low : (cur : List (List ℕ)) → Rows ring S k cur → (η : ℕ) → η < e → Below 129 q (getD cur η [])
+    pub row-low : (cur : List (List ℕ)) → Rows ring S k cur → (η : ℕ) → η < e → Below maxCells q (getD cur η [])
     row-low cur rs η h i l = omega (arith, rs .cells η i h l, reduced p e (st .prime) (st .pos) S η k h .0 i, st .whole)
 
-    pub row-clear : (cur : List (List ℕ)) (len : List ℕ) → k < 128 → Rows ring S k cur → Lens ring S k len → (η : ℕ) → η < e
+    pub row-clear : (cur : List (List ℕ)) (len : List ℕ) → k < maxTerms → Rows ring S k cur → Lens ring S k len → (η : ℕ) → η < e
         → (i : ℕ) → at len η < i → i ≤ k → at (getD cur η []) i ≡ zero
     row-clear cur len kk rs ls η h i a b =
         rs .cells η i h (omega arith) ∙ past-a p e (st .prime) (st .pos) S η k i h (omega (arith, ls .sizes η h))
 
-    pub d-code : (cur : List (List ℕ)) → k < 128 → Rows ring S k cur → (η : ℕ) → η < e
+    pub d-code : (cur : List (List ℕ)) → k < maxTerms → Rows ring S k cur → (η : ℕ) → η < e
         → conv (at S) (at (getD cur η [])) k % q ≡ d-at p e S η k
     d-code cur kk rs η h =
         conv-cong {q = q} (at S) (at S) (at (getD cur η [])) (at (rowAt p e S η k .a)) k (λ i l. rfl) (λ i l. of-eq (rs .cells η i h (omega arith))) .same
@@ -211,7 +212,7 @@ module _ (ring : Ring) (S : List ℕ) (st : Setting ring S) where
         pub rows-code : (cur₀ cur : List (List ℕ)) → Rows ring S k cur₀ → Changing ring k old len when mult us ts cur₀ cur e → Rows ring S (suc k) cur
         rows-code cur₀ cur rs ch = record { cells = λ η i h l. go η i h l (decLt (at us η) e) (decLt zero (at len (e - 1 - at us η))) }
           where
-            go : (η i : ℕ) → η < e → i < 129 → Dec (at us η < e) → Dec (zero < at len (e - 1 - at us η))
+            go : (η i : ℕ) → η < e → i < maxCells → Dec (at us η < e) → Dec (zero < at len (e - 1 - at us η))
                 → at (getD cur η []) i ≡ at (rowAt p e S η (suc k) .a) i
             go η i h l (no a) z =
                 ap (λ (x : List ℕ). at x i) (ch .done η h .stay (omega arith)) ∙ rs .cells η i h l
@@ -225,7 +226,7 @@ module _ (ring : Ring) (S : List ℕ) (st : Setting ring S) where
                 ∙ ap₂ (λ (x y : ℕ). (x + y * at (up (k - at when g) (getD old g [])) i) % p ^ e) (rs .cells η i h l)
                 (factor-code (d-at p e S η k) g (at ts η) (at us η) (at mult g) o (lk .rests η h) (sym (lk .powers η h)) a refl (kp .scale))
                 ∙ ap (λ (x : ℕ). (at (rowAt p e S η k .a) i + multiplier p e (d-at p e S η k) o * x) % p ^ e)
-                (ap (λ (x : ℕ). at (up (k - x) (getD old g [])) i) (kp .time) ∙ up-same (k - o .r) (getD old g []) (o .pair .a) 129 i (kp .same) l)
+                (ap (λ (x : ℕ). at (up (k - x) (getD old g [])) i) (kp .time) ∙ up-same (k - o .r) (getD old g []) (o .pair .a) maxCells i (kp .same) l)
                 ∙ ap (λ (j : ℕ). (at (rowAt p e S η k .a) i + multiplier p e (d-at p e S η k) (olderAt p e S j k)
                 * at (up (k - olderAt p e S j k .r) (olderAt p e S j k .pair .a)) i) % p ^ e) (same-g η h)
                 ∙ sym (cancelled-at η i h (omega (arith, lk .powers η h)) (omega (arith, len-g η h)))
@@ -339,7 +340,7 @@ module _ (ring : Ring) (S : List ℕ) (st : Setting ring S) where
 
   -- the state before any term
   pub start-code : (cur₀ cur old : List (List ℕ)) (len when reach mult : List ℕ) → Starting p cur₀ cur e → Shape old → ((η : ℕ) → at len η ≡ zero)
-      → length len ≡ 15 → length when ≡ 15 → length reach ≡ 15 → length mult ≡ 15 → State ring S zero cur old len when reach mult
+      → length len ≡ maxRows → length when ≡ maxRows → length reach ≡ maxRows → length mult ≡ maxRows → State ring S zero cur old len when reach mult
   start-code cur₀ cur old len when reach mult s so none l1 l2 l3 l4 =
       record {
         rows = record { cells = λ η i h l. s .done η i h ∙ ap (λ (w : Pair). at (w .a) i) (sym (row-start p e S η h)) };
@@ -359,7 +360,7 @@ module _ (ring : Ring) (S : List ℕ) (st : Setting ring S) where
       subst (λ (x : ℕ). at lens x ≡ L-at p e S zero x) (let z : zero ≡ j = omega arith in z)
       (h ∙ sym (start-length p e (st .prime) (st .pos) S zero (st .pos)))
 
-  pub lens-next : (lens : List ℕ) (k v : ℕ) → length lens ≡ 129 → k < 128 → ((j : ℕ) → j ≤ k → at lens j ≡ L-at p e S zero j)
+  pub lens-next : (lens : List ℕ) (k v : ℕ) → length lens ≡ maxCells → k < maxTerms → ((j : ℕ) → j ≤ k → at lens j ≡ L-at p e S zero j)
       → v ≡ L-at p e S zero (suc k) → (j : ℕ) → j ≤ k + 1 → at (set lens (k + 1) v) j ≡ L-at p e S zero j
   lens-next lens k v h small before now j l =
       each-next zero (λ (x : ℕ) (y : ℕ). y ≡ L-at p e S zero x) lens (k + 1) v (λ x m. before x (omega arith)) (omega arith)

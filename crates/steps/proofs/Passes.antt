@@ -12,6 +12,7 @@ use borrow.Author.Tests.{le-leb, lt-leb, lt-ltb, le-ltb}
 use Rattle.lists.specs.Table.{at}
 use Rattle.lists.proofs.Table.{each-next, each-skip, rest-next}
 use Rattle.residue.specs.Units.{inverse}
+use Rattle.steps.specs.Sizes.{maxCells, maxRows}
 use Rattle.steps.specs.declared.Ring.{Ring}
 use Rattle.steps.specs.Passes.{Shape, Blank, Starting, nextOf, Memory, Settling}
 use Rattle.steps.specs.State.{State}
@@ -19,10 +20,10 @@ use Rattle.steps.specs.State.{State}
 -- ---- rows of 129 cells
 
 -- a row of 15 is set to one of 129 cells
-pub shape-set : (x : List (List ℕ)) (i : ℕ) (v : List ℕ) → Shape x → length v ≡ 129 → Shape (set x i v)
+pub shape-set : (x : List (List ℕ)) (i : ℕ) (v : List ℕ) → Shape x → length v ≡ maxCells → Shape (set x i v)
 shape-set x i v s h = record { many = length-set x i v ∙ s .many; wide = λ η l. go η (ℕ-discrete η i) l }
   where
-    go : (η : ℕ) → Dec (η ≡ i) → η < 15 → length (getD (set x i v) η []) ≡ 129
+    go : (η : ℕ) → Dec (η ≡ i) → η < maxRows → length (getD (set x i v) η []) ≡ maxCells
     go η (yes e) l =
         ap (λ (k : ℕ). length (getD (set x i v) k [])) e ∙ ap length (getD-set-same x i v [] (omega (arith, s .many))) ∙ h
     go η (no f) l = ap length (getD-set-other x i η v [] f) ∙ s .wide η l
@@ -97,7 +98,7 @@ module _ (ring : Ring) (k : ℕ) (saved : List (List ℕ)) (next us ts : List �
           }
 
   -- a row that grew remembers anew
-  pub settle-next : (m : ℕ) → Settling ring k saved next us ts old₀ len₀ when₀ reach₀ mult₀ old len when reach mult i → i < 15 → Shape saved
+  pub settle-next : (m : ℕ) → Settling ring k saved next us ts old₀ len₀ when₀ reach₀ mult₀ old len when reach mult i → i < maxRows → Shape saved
       → at len i < at next i
       → m ≡ inverse (ring .q) (at ts (ring .e - 1 - at us i)) * ring .p ^ (ring .e - 1 - i - at us (ring .e - 1 - at us i)) % ring .q
       → Settling ring k saved next us ts old₀ len₀ when₀ reach₀ mult₀
@@ -141,7 +142,7 @@ module _ (ring : Ring) (k : ℕ) (saved : List (List ℕ)) (next us ts : List �
 -- ---- the rows before any term
 
 -- a row is given its first cell
-pub start-next : (p : ℕ) (cur₀ cur : List (List ℕ)) (i r : ℕ) → Blank cur₀ → Starting p cur₀ cur i → i < 15 → r ≡ p ^ i
+pub start-next : (p : ℕ) (cur₀ cur : List (List ℕ)) (i r : ℕ) → Blank cur₀ → Starting p cur₀ cur i → i < maxRows → r ≡ p ^ i
     → Starting p cur₀ (set cur i (set (getD cur i []) zero r)) (i + 1)
 start-next p cur₀ cur i r none s small h =
     record {
@@ -165,23 +166,23 @@ line-blank zero j = refl
 line-blank (suc n) zero = refl
 line-blank (suc n) (suc j) = line-blank n j
 
-block-blank : (n η j : ℕ) → at (getD (replicate n (replicate 129 zero)) η []) j ≡ zero
+block-blank : (n η j : ℕ) → at (getD (replicate n (replicate maxCells zero)) η []) j ≡ zero
 block-blank zero η j = refl
-block-blank (suc n) zero j = line-blank 129 j
+block-blank (suc n) zero j = line-blank maxCells j
 block-blank (suc n) (suc η) j = block-blank n η j
 
-pub zeros-blank : Blank (replicate 15 (replicate 129 zero))
-zeros-blank η j = block-blank 15 η j
+pub zeros-blank : Blank (replicate maxRows (replicate maxCells zero))
+zeros-blank η j = block-blank maxRows η j
 
-pub zeros-shape : Shape (replicate 15 (replicate 129 zero))
+pub zeros-shape : Shape (replicate maxRows (replicate maxCells zero))
 zeros-shape =
     record {
-      many = length-replicate 15 (replicate 129 zero);
-      wide = λ η h. ap length (getD-replicate 15 η (replicate 129 zero) [] h) ∙ length-replicate 129 zero;
+      many = length-replicate maxRows (replicate maxCells zero);
+      wide = λ η h. ap length (getD-replicate maxRows η (replicate maxCells zero) [] h) ∙ length-replicate maxCells zero;
     }
 
-pub line-long : length (replicate 15 zero) ≡ 15
-line-long = length-replicate 15 zero
+pub line-long : length (replicate maxRows zero) ≡ maxRows
+line-long = length-replicate maxRows zero
 
 pub state-at : {ring : Ring} {k k′ : ℕ} {S : List ℕ} {cur old : List (List ℕ)} {len when reach mult : List ℕ}
     → k ≡ k′ → State ring S k cur old len when reach mult → State ring S k′ cur old len when reach mult

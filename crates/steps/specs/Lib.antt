@@ -1,3 +1,4 @@
+pub mod Sizes
 pub mod Run
 pub mod Passes
 pub mod State

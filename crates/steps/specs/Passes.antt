@@ -9,6 +9,7 @@ use Rattle.lists.specs.Table.{at}
 use Rattle.lists.specs.Choice.{pick}
 use Rattle.residue.specs.Units.{Coprime, inverse}
 use Rattle.recurrence.specs.Polynomial.{up}
+use Rattle.steps.specs.Sizes.{maxCells, maxRows}
 use Rattle.steps.specs.declared.Ring.{Ring}
 use Rattle.steps.specs.Run.{Below}
 
@@ -23,8 +24,8 @@ pub record Added (n q f s : ℕ) (x y z : List ℕ) : Type 0 where
 
 -- 15 rows of 129 cells
 pub record Shape (rows : List (List ℕ)) : Type 0 where
-  pub many : length rows ≡ 15
-  pub wide : (η : ℕ) → η < 15 → length (getD rows η []) ≡ 129
+  pub many : length rows ≡ maxRows
+  pub wide : (η : ℕ) → η < maxRows → length (getD rows η []) ≡ maxCells
 
 -- every cell is 0
 abbrev pub Blank : List (List ℕ) → Type 0
@@ -47,7 +48,7 @@ nextAt len us k e η = nextOf (at len η) (at us η) (at len (e - 1 - at us η))
 
 -- the lengths after step k, and of each row that grows the row that it is to remember, for the first i rows
 pub record Planned (k e : ℕ) (len us : List ℕ) (cur : List (List ℕ)) (next : List ℕ) (saved : List (List ℕ)) (i : ℕ) : Type 0 where
-  pub long : length next ≡ 15
+  pub long : length next ≡ maxRows
   pub shape : Shape saved
   pub lens : (η : ℕ) → η < i → at next η ≡ nextAt len us k e η
   pub rows : (η : ℕ) → η < i → at len η < nextAt len us k e η → getD saved η [] ≡ getD cur (e - 1 - at us η) []
@@ -58,8 +59,8 @@ pub record Planned (k e : ℕ) (len us : List ℕ) (cur : List (List ℕ)) (next
 pub record Stocked (ring : Ring) (k : ℕ) (old : List (List ℕ)) (len when reach mult : List ℕ) : Type 0 where
   pub early : (g : ℕ) → g < ring .e → zero < at len g → at when g < k
   pub short : (g : ℕ) → g < ring .e → zero < at len g → at reach g ≤ at when g
-  pub clear : (g : ℕ) → g < ring .e → zero < at len g → Clear (at reach g + 1) 129 (getD old g [])
-  pub low : (g : ℕ) → g < ring .e → zero < at len g → Below 129 (ring .q) (getD old g [])
+  pub clear : (g : ℕ) → g < ring .e → zero < at len g → Clear (at reach g + 1) maxCells (getD old g [])
+  pub low : (g : ℕ) → g < ring .e → zero < at len g → Below maxCells (ring .q) (getD old g [])
   pub mults : (g : ℕ) → g < ring .e → zero < at len g → at mult g < ring .q
 
 -- y is the row x after step k, from its u and t
@@ -68,7 +69,7 @@ pub record Changed (ring : Ring) (k : ℕ) (old : List (List ℕ)) (len when mul
   pub stay : ring .e ≤ u → y ≡ x
   pub fresh : u < ring .e → at len (ring .e - 1 - u) ≡ zero → y ≡ x
   pub moved : u < ring .e → zero < at len (ring .e - 1 - u)
-      → Added 129 (ring .q) (ring .q - t * at mult (ring .e - 1 - u) % ring .q) (k - at when (ring .e - 1 - u)) x (getD old (ring .e - 1 - u) []) y
+      → Added maxCells (ring .q) (ring .q - t * at mult (ring .e - 1 - u) % ring .q) (k - at when (ring .e - 1 - u)) x (getD old (ring .e - 1 - u) []) y
 
 -- the first i rows are changed
 pub record Changing (ring : Ring) (k : ℕ) (old : List (List ℕ)) (len when mult us ts : List ℕ) (cur₀ cur : List (List ℕ)) (i : ℕ) : Type 0 where
@@ -100,10 +101,10 @@ pub record Memory (ring : Ring) (k : ℕ) (saved : List (List ℕ)) (len next us
 pub record Settling (ring : Ring) (k : ℕ) (saved : List (List ℕ)) (next us ts : List ℕ) (old₀ : List (List ℕ)) (len₀ when₀ reach₀ mult₀ : List ℕ)
     (old : List (List ℕ)) (len when reach mult : List ℕ) (i : ℕ) : Type 0 where
   pub shape : Shape old
-  pub long-len : length len ≡ 15
-  pub long-when : length when ≡ 15
-  pub long-reach : length reach ≡ 15
-  pub long-mult : length mult ≡ 15
+  pub long-len : length len ≡ maxRows
+  pub long-when : length when ≡ maxRows
+  pub long-reach : length reach ≡ maxRows
+  pub long-mult : length mult ≡ maxRows
   pub done : (η : ℕ) → η < i
       → Memory ring k saved len₀ next us ts old₀ when₀ reach₀ mult₀ η (getD old η []) (at len η) (at when η) (at reach η) (at mult η)
   pub todo-old : (η : ℕ) → i ≤ η → getD old η [] ≡ getD old₀ η []

@@ -8,12 +8,13 @@ use Rattle.lists.specs.Table.{at}
 use Rattle.residue.specs.Units.{inverse}
 use Rattle.recurrence.specs.Steps.{Older, rowAt}
 use Rattle.recurrence.proofs.Steps.{u-at, θ-at, L-at, olderAt}
+use Rattle.steps.specs.Sizes.{maxCells, maxRows}
 use Rattle.steps.specs.declared.Ring.{Ring}
 use Rattle.steps.specs.Passes.{Shape}
 
 -- the a of each row
 pub record Rows (ring : Ring) (S : List ℕ) (k : ℕ) (cur : List (List ℕ)) : Type 0 where
-  pub cells : (η i : ℕ) → η < ring .e → i < 129 → at (getD cur η []) i ≡ at (rowAt (ring .p) (ring .e) S η k .a) i
+  pub cells : (η i : ℕ) → η < ring .e → i < maxCells → at (getD cur η []) i ≡ at (rowAt (ring .p) (ring .e) S η k .a) i
 
 -- their lengths
 pub record Lens (ring : Ring) (S : List ℕ) (k : ℕ) (len : List ℕ) : Type 0 where
@@ -27,7 +28,7 @@ pub record Looks (ring : Ring) (S : List ℕ) (k : ℕ) (us ts : List ℕ) : Typ
 -- what row g remembers before step k, the definition's o: reach is a bound on its length, mult the inverse of its θ times the power
 -- of p that every row needs which asks g, for such a row has u = e - 1 - g
 pub record Kept (ring : Ring) (k g : ℕ) (o : Older) (old : List ℕ) (when reach mult : ℕ) : Type 0 where
-  pub same : (i : ℕ) → i < 129 → at old i ≡ at (o .pair .a) i
+  pub same : (i : ℕ) → i < maxCells → at old i ≡ at (o .pair .a) i
   pub time : when ≡ o .r
   pub early : when < k
   pub short : reach ≤ when
@@ -45,14 +46,14 @@ pub record State (ring : Ring) (S : List ℕ) (k : ℕ) (cur old : List (List �
   pub keeps : Keeps ring S k old when reach mult
   pub shape-cur : Shape cur
   pub shape-old : Shape old
-  pub long-len : length len ≡ 15
-  pub long-when : length when ≡ 15
-  pub long-reach : length reach ≡ 15
-  pub long-mult : length mult ≡ 15
+  pub long-len : length len ≡ maxRows
+  pub long-when : length when ≡ maxRows
+  pub long-reach : length reach ≡ maxRows
+  pub long-mult : length mult ≡ maxRows
 
 -- room for what one step finds out
 pub record Spare (next : List ℕ) (saved : List (List ℕ)) (us ts : List ℕ) : Type 0 where
-  pub long-next : length next ≡ 15
+  pub long-next : length next ≡ maxRows
   pub shape-saved : Shape saved
-  pub long-us : length us ≡ 15
-  pub long-ts : length ts ≡ 15
+  pub long-us : length us ≡ maxRows
+  pub long-ts : length ts ≡ maxRows

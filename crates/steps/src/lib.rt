@@ -9,12 +9,19 @@ ghost use lib.ListN.{length, getD};
 ghost use Rattle.lists.specs.Table.{at};
 ghost use Rattle.residue.specs.Reduction.{scaleOf};
 ghost use Rattle.recurrence.specs.Polynomial.{conv};
+ghost use Rattle.steps.specs.Sizes.{maxTerms, maxCells, maxRows};
 ghost use Rattle.steps.specs.Run.{Below, Setting, Result};
 ghost use Rattle.steps.specs.Passes.{Clear, Added, Shape, Blank, Starting, nextAt, Planned, Stocked, Changed, Changing, Grows, Settling};
 ghost use Rattle.steps.specs.State.{Rows, Lens, Looks, State, Spare};
 
+// Places for terms, and for the cells of b.
+pub const TERMS: usize = 128;
+
+// Places for the cells of a row's a, and for the lengths after 0, 1, .. steps.
+pub const CELLS: usize = 129;
+
 // Places for rows: a power p^e below 65,536 has e at most 15.
-const ROWS: usize = 15;
+pub const ROWS: usize = 15;
 
 // The ring in which the steps go: p, e, q = p^e, and q's `residue::scale`.
 pub struct Ring {
@@ -25,8 +32,8 @@ pub struct Ring {
 }
 
 // Coefficient k of the product of a and s, modulo q, where a is zero past place l. The sum fits 64 bits, so that one division does.
-pub fn coefficient(a: &[u32; 129], s: &[u32; 128], l: usize, k: usize, q: u32) -> u32
-    requires { ⌜ (l ≤ k) × (k < 128) × (0 < q) × Below 129 65536 (now a) × Below 128 65536 (now s)
+pub fn coefficient(a: &[u32; CELLS], s: &[u32; TERMS], l: usize, k: usize, q: u32) -> u32
+    requires { ⌜ (l ≤ k) × (k < maxTerms) × (0 < q) × Below maxCells 65536 (now a) × Below maxTerms 65536 (now s)
         × ((i : ℕ) → l < i → i ≤ k → at (now a) i ≡ 0) ⌝ }
     ensures { λ r. ⌜ r ≡ conv (at (now (s .entry))) (at (now (a .entry))) k % q ⌝ }
 {
@@ -40,10 +47,10 @@ pub fn coefficient(a: &[u32; 129], s: &[u32; 128], l: usize, k: usize, q: u32) -
 }
 
 // Adds f times the first n places of y, moved up s places, to x, modulo q.
-fn combine(x: &mut [u32; 129], y: &[u32; 129], f: u32, s: usize, n: usize, ring: Ring)
-    requires { ⌜ (length (now x) ≡ 129) × (s + n ≤ 129) × (0 < ring .q) × (ring .q < 65536) × (f ≤ ring .q) × Below 129 (ring .q) (now x)
-        × Below 129 (ring .q) (now y) × Clear n 129 (now y) × (ring .scale ≡ scaleOf (ring .q)) ⌝ }
-    ensures { λ _. ⌜ Added 129 (ring .q) f s (now (x .entry)) (now (y .entry)) (now (x .exit)) ⌝ }
+fn combine(x: &mut [u32; CELLS], y: &[u32; CELLS], f: u32, s: usize, n: usize, ring: Ring)
+    requires { ⌜ (length (now x) ≡ maxCells) × (s + n ≤ maxCells) × (0 < ring .q) × (ring .q < 65536) × (f ≤ ring .q) × Below maxCells (ring .q) (now x)
+        × Below maxCells (ring .q) (now y) × Clear n maxCells (now y) × (ring .scale ≡ scaleOf (ring .q)) ⌝ }
+    ensures { λ _. ⌜ Added maxCells (ring .q) f s (now (x .entry)) (now (y .entry)) (now (x .exit)) ⌝ }
 {
     let end = s + n;
     let mut i: usize = s;
@@ -55,18 +62,18 @@ fn combine(x: &mut [u32; 129], y: &[u32; 129], f: u32, s: usize, n: usize, ring:
 
 // u and theta of each row's discrepancy at step k.
 fn look(
-    cur: &[[u32; 129]; ROWS],
+    cur: &[[u32; CELLS]; ROWS],
     len: &[usize; ROWS],
-    s: &[u32; 128],
+    s: &[u32; TERMS],
     k: usize,
     ring: Ring,
     us: &mut [usize; ROWS],
     ts: &mut [u32; ROWS],
 )
-    requires { ⌜ Setting ring (now s) × (k < 128) × Rows ring (now s) k (now cur) × Lens ring (now s) k (now len) × (length (now us) ≡ 15)
-        × (length (now ts) ≡ 15) ⌝ }
-    ensures { λ _. ⌜ Looks ring (now (s .entry)) k (now (us .exit)) (now (ts .exit)) × (length (now (us .exit)) ≡ 15)
-        × (length (now (ts .exit)) ≡ 15) ⌝ }
+    requires { ⌜ Setting ring (now s) × (k < maxTerms) × Rows ring (now s) k (now cur) × Lens ring (now s) k (now len) × (length (now us) ≡ maxRows)
+        × (length (now ts) ≡ maxRows) ⌝ }
+    ensures { λ _. ⌜ Looks ring (now (s .entry)) k (now (us .exit)) (now (ts .exit)) × (length (now (us .exit)) ≡ maxRows)
+        × (length (now (ts .exit)) ≡ maxRows) ⌝ }
 {
     let mut i: usize = 0;
     while i < ring.e {
@@ -81,7 +88,7 @@ fn look(
 
 // The length of row i after step k, by the law of lengths.
 fn grown(len: &[usize; ROWS], us: &[usize; ROWS], i: usize, k: usize, e: usize) -> usize
-    requires { ⌜ (i < e) × (k < 128) × (e ≤ 15) × ((j : ℕ) → j < e → at (now len) j ≤ k) ⌝ }
+    requires { ⌜ (i < e) × (k < maxTerms) × (e ≤ maxRows) × ((j : ℕ) → j < e → at (now len) j ≤ k) ⌝ }
     ensures { λ r. ⌜ r ≡ nextAt (now (len .entry)) (now (us .entry)) k e i ⌝ }
 {
     let l = len[i];
@@ -97,15 +104,15 @@ fn grown(len: &[usize; ROWS], us: &[usize; ROWS], i: usize, k: usize, e: usize) 
 
 // The lengths after step k. Of each row that grows, the row that it is to remember is put aside, as it is before the step.
 fn plan(
-    cur: &[[u32; 129]; ROWS],
+    cur: &[[u32; CELLS]; ROWS],
     len: &[usize; ROWS],
     us: &[usize; ROWS],
     k: usize,
     e: usize,
     next: &mut [usize; ROWS],
-    saved: &mut [[u32; 129]; ROWS],
+    saved: &mut [[u32; CELLS]; ROWS],
 )
-    requires { ⌜ (k < 128) × (e ≤ 15) × ((j : ℕ) → j < e → at (now len) j ≤ k) × Shape (now cur) × (length (now next) ≡ 15)
+    requires { ⌜ (k < maxTerms) × (e ≤ maxRows) × ((j : ℕ) → j < e → at (now len) j ≤ k) × Shape (now cur) × (length (now next) ≡ maxRows)
         × Shape (now saved) ⌝ }
     ensures { λ _. ⌜ Planned k e (now (len .entry)) (now (us .entry)) (now (cur .entry)) (now (next .exit)) (now (saved .exit)) e ⌝ }
 {
@@ -126,8 +133,8 @@ fn plan(
 // The a of one row after step k. A row with u = e stays; where row g has length 0 only b would change; else the row that g remembers
 // cancels the discrepancy. `mult` has the inverse of its theta times p^(u - u'), which is the same for every row that asks g.
 fn change(
-    x: &mut [u32; 129],
-    old: &[[u32; 129]; ROWS],
+    x: &mut [u32; CELLS],
+    old: &[[u32; CELLS]; ROWS],
     len: &[usize; ROWS],
     when: &[usize; ROWS],
     reach: &[usize; ROWS],
@@ -137,9 +144,9 @@ fn change(
     k: usize,
     ring: Ring,
 )
-    requires { ⌜ (k < 128) × (ring .e ≤ 15) × (ring .q < 65536) × (0 < ring .q)
-        × Stocked ring k (now old) (now len) (now when) (now reach) (now mult) × (t ≤ ring .q) × (length (now x) ≡ 129)
-        × Below 129 (ring .q) (now x) × (ring .scale ≡ scaleOf (ring .q)) ⌝ }
+    requires { ⌜ (k < maxTerms) × (ring .e ≤ maxRows) × (ring .q < 65536) × (0 < ring .q)
+        × Stocked ring k (now old) (now len) (now when) (now reach) (now mult) × (t ≤ ring .q) × (length (now x) ≡ maxCells)
+        × Below maxCells (ring .q) (now x) × (ring .scale ≡ scaleOf (ring .q)) ⌝ }
     ensures { λ _. ⌜ Changed ring k (now (old .entry)) (now (len .entry)) (now (when .entry)) (now (mult .entry)) u t (now (x .entry))
         (now (x .exit)) ⌝ }
 {
@@ -156,8 +163,8 @@ fn change(
 
 // The a of every row after step k.
 fn change_all(
-    cur: &mut [[u32; 129]; ROWS],
-    old: &[[u32; 129]; ROWS],
+    cur: &mut [[u32; CELLS]; ROWS],
+    old: &[[u32; CELLS]; ROWS],
     len: &[usize; ROWS],
     when: &[usize; ROWS],
     reach: &[usize; ROWS],
@@ -167,9 +174,9 @@ fn change_all(
     k: usize,
     ring: Ring,
 )
-    requires { ⌜ (k < 128) × (ring .e ≤ 15) × (ring .q < 65536) × (0 < ring .q)
+    requires { ⌜ (k < maxTerms) × (ring .e ≤ maxRows) × (ring .q < 65536) × (0 < ring .q)
         × Stocked ring k (now old) (now len) (now when) (now reach) (now mult) × ((j : ℕ) → j < ring .e → at (now ts) j ≤ ring .q)
-        × Shape (now cur) × ((j : ℕ) → j < ring .e → Below 129 (ring .q) (getD (now cur) j [])) × (ring .scale ≡ scaleOf (ring .q)) ⌝ }
+        × Shape (now cur) × ((j : ℕ) → j < ring .e → Below maxCells (ring .q) (getD (now cur) j [])) × (ring .scale ≡ scaleOf (ring .q)) ⌝ }
     ensures { λ _. ⌜ Changing ring k (now (old .entry)) (now (len .entry)) (now (when .entry)) (now (mult .entry)) (now (us .entry))
         (now (ts .entry)) (now (cur .entry)) (now (cur .exit)) (ring .e) ⌝ }
 {
@@ -194,21 +201,21 @@ fn change_all(
 // The lengths after step k, and what the rows that grew now remember: the row put aside, its step, its length and its multiplier. One
 // inverse a growth is enough, and theta is a unit.
 fn settle(
-    old: &mut [[u32; 129]; ROWS],
+    old: &mut [[u32; CELLS]; ROWS],
     len: &mut [usize; ROWS],
     when: &mut [usize; ROWS],
     reach: &mut [usize; ROWS],
     mult: &mut [u32; ROWS],
     next: &[usize; ROWS],
-    saved: &[[u32; 129]; ROWS],
+    saved: &[[u32; CELLS]; ROWS],
     us: &[usize; ROWS],
     ts: &[u32; ROWS],
     k: usize,
     ring: Ring,
 )
-    requires { ⌜ (k < 128) × (ring .e ≤ 15) × (ring .q < 65536) × (0 < ring .q) × (0 < ring .p) × (ring .p ^ ring .e < 65536)
+    requires { ⌜ (k < maxTerms) × (ring .e ≤ maxRows) × (ring .q < 65536) × (0 < ring .q) × (0 < ring .p) × (ring .p ^ ring .e < 65536)
         × ((j : ℕ) → j < ring .e → Grows ring k (now len) (now next) (now us) (now ts) j) × Shape (now old) × Shape (now saved)
-        × (length (now len) ≡ 15) × (length (now when) ≡ 15) × (length (now reach) ≡ 15) × (length (now mult) ≡ 15) ⌝ }
+        × (length (now len) ≡ maxRows) × (length (now when) ≡ maxRows) × (length (now reach) ≡ maxRows) × (length (now mult) ≡ maxRows) ⌝ }
     ensures { λ _. ⌜ Settling ring k (now (saved .entry)) (now (next .entry)) (now (us .entry)) (now (ts .entry)) (now (old .entry))
         (now (len .entry)) (now (when .entry)) (now (reach .entry)) (now (mult .entry)) (now (old .exit)) (now (len .exit))
         (now (when .exit)) (now (reach .exit)) (now (mult .exit)) (ring .e) ⌝ }
@@ -234,21 +241,21 @@ fn settle(
 // Step k. Every row after the step is made from the rows before it: `look` and `plan` only read them, `change_all` reads nothing of
 // other rows but what they remember, and `settle` renews that last.
 fn step(
-    cur: &mut [[u32; 129]; ROWS],
-    old: &mut [[u32; 129]; ROWS],
+    cur: &mut [[u32; CELLS]; ROWS],
+    old: &mut [[u32; CELLS]; ROWS],
     len: &mut [usize; ROWS],
     when: &mut [usize; ROWS],
     reach: &mut [usize; ROWS],
     mult: &mut [u32; ROWS],
     next: &mut [usize; ROWS],
-    saved: &mut [[u32; 129]; ROWS],
+    saved: &mut [[u32; CELLS]; ROWS],
     us: &mut [usize; ROWS],
     ts: &mut [u32; ROWS],
-    s: &[u32; 128],
+    s: &[u32; TERMS],
     k: usize,
     ring: Ring,
 )
-    requires { ⌜ Setting ring (now s) × (k < 128) × State ring (now s) k (now cur) (now old) (now len) (now when) (now reach) (now mult)
+    requires { ⌜ Setting ring (now s) × (k < maxTerms) × State ring (now s) k (now cur) (now old) (now len) (now when) (now reach) (now mult)
         × Spare (now next) (now saved) (now us) (now ts) ⌝ }
     ensures { λ _. ⌜ State ring (now (s .entry)) (suc k) (now (cur .exit)) (now (old .exit)) (now (len .exit)) (now (when .exit))
         (now (reach .exit)) (now (mult .exit))
@@ -261,8 +268,8 @@ fn step(
 }
 
 // The rows before any term: row i has a = p^i.
-fn start(cur: &mut [[u32; 129]; ROWS], p: u32, e: usize)
-    requires { ⌜ (0 < p) × (p ^ e < 65536) × (e ≤ 15) × Shape (now cur) × Blank (now cur) ⌝ }
+fn start(cur: &mut [[u32; CELLS]; ROWS], p: u32, e: usize)
+    requires { ⌜ (0 < p) × (p ^ e < 65536) × (e ≤ maxRows) × Shape (now cur) × Blank (now cur) ⌝ }
     ensures { λ _. ⌜ Starting p (now (cur .entry)) (now (cur .exit)) e ⌝ }
 {
     let mut r: u32 = 1;
@@ -275,13 +282,13 @@ fn start(cur: &mut [[u32; 129]; ROWS], p: u32, e: usize)
 }
 
 // The steps on the first n terms of s: a of row 0, and its length for the first 0, 1, .., n terms. The terms need not be below q.
-pub fn run(s: &[u32; 128], n: usize, ring: Ring, a: &mut [u32; 129], lens: &mut [u32; 129])
-    requires { ⌜ Setting ring (now s) × (n ≤ 128) ⌝ }
+pub fn run(s: &[u32; TERMS], n: usize, ring: Ring, a: &mut [u32; CELLS], lens: &mut [u32; CELLS])
+    requires { ⌜ Setting ring (now s) × (n ≤ maxTerms) ⌝ }
     ensures { λ _. ⌜ Result ring (now (s .entry)) n (now (a .exit)) (now (lens .exit)) ⌝ }
 {
-    let mut cur = [[0u32; 129]; ROWS];
-    let mut old = [[0u32; 129]; ROWS];
-    let mut saved = [[0u32; 129]; ROWS];
+    let mut cur = [[0u32; CELLS]; ROWS];
+    let mut old = [[0u32; CELLS]; ROWS];
+    let mut saved = [[0u32; CELLS]; ROWS];
     let mut len = [0usize; ROWS];
     let mut next = [0usize; ROWS];
     let mut when = [0usize; ROWS];
@@ -290,7 +297,7 @@ pub fn run(s: &[u32; 128], n: usize, ring: Ring, a: &mut [u32; 129], lens: &mut 
     let mut us = [0usize; ROWS];
     let mut ts = [0u32; ROWS];
     start(&mut cur, ring.p, ring.e);
-    *lens = [0u32; 129];
+    *lens = [0u32; CELLS];
     let mut k: usize = 0;
     while k < n {
         step(
@@ -316,25 +323,25 @@ pub fn run(s: &[u32; 128], n: usize, ring: Ring, a: &mut [u32; 129], lens: &mut 
 
 // The rows before step n, as the step sees them: a of each row, its length, and u and theta of its discrepancy.
 pub fn rows(
-    s: &[u32; 128],
+    s: &[u32; TERMS],
     n: usize,
     ring: Ring,
-    cur: &mut [[u32; 129]; ROWS],
+    cur: &mut [[u32; CELLS]; ROWS],
     len: &mut [usize; ROWS],
     us: &mut [usize; ROWS],
     ts: &mut [u32; ROWS],
 )
-    requires { ⌜ Setting ring (now s) × (n < 128) ⌝ }
+    requires { ⌜ Setting ring (now s) × (n < maxTerms) ⌝ }
     ensures { λ _. ⌜ Rows ring (now (s .entry)) n (now (cur .exit)) × Lens ring (now (s .entry)) n (now (len .exit))
         × Looks ring (now (s .entry)) n (now (us .exit)) (now (ts .exit)) ⌝ }
 {
-    let mut old = [[0u32; 129]; ROWS];
-    let mut saved = [[0u32; 129]; ROWS];
+    let mut old = [[0u32; CELLS]; ROWS];
+    let mut saved = [[0u32; CELLS]; ROWS];
     let mut next = [0usize; ROWS];
     let mut when = [0usize; ROWS];
     let mut reach = [0usize; ROWS];
     let mut mult = [0u32; ROWS];
-    *cur = [[0u32; 129]; ROWS];
+    *cur = [[0u32; CELLS]; ROWS];
     *len = [0usize; ROWS];
     *us = [0usize; ROWS];
     *ts = [0u32; ROWS];

@@ -23,6 +23,7 @@ use Rattle.recurrence.specs.Polynomial.{len}
 use Rattle.recurrence.specs.Register.{complexity, register}
 use Rattle.recurrence.proofs.Pairs.{conv-cong}
 use Rattle.recurrence.proofs.Register.{Right, complexity-most, complexity-least, is-register-a, register-length, register-right}
+use Rattle.steps.specs.Sizes.{maxCells, maxTerms, maxRows}
 use Rattle.steps.specs.declared.Ring.{Ring}
 use Rattle.steps.specs.Run.{Below, Setting, firstRow}
 use Rattle.synthesis.specs.declared.Synthesis.{Synthesis}
@@ -42,7 +43,7 @@ is-ring f p e q scale hp he hq hs =
 -- f divides Q, and row 0 there is in a and in the lengths
 pub record Covers (S : List ℕ) (n Q : ℕ) (a lengths : List ℕ) (f : PrimePower) : Type 0 where
   pub divides : Q % value f ≡ zero
-  pub cells : (i : ℕ) → i < 129 → Cong (value f) (at a i) (at (firstRow (ringOf f) S n .a) i)
+  pub cells : (i : ℕ) → i < maxCells → Cong (value f) (at a i) (at (firstRow (ringOf f) S n .a) i)
   pub sizes : (k : ℕ) → k ≤ n → len (firstRow (ringOf f) S k) ≤ at lengths k
 
 -- a and the lengths are joined for the prime powers of Q, and those of R are left
@@ -51,16 +52,16 @@ pub record Gathered (m : ℕ) (S : List ℕ) (n Q R : ℕ) (a lengths : List ℕ
   pub some : zero < Q
   pub more : zero < R
   pub apart : Coprime Q R
-  pub long-a : length a ≡ 129
-  pub long-lengths : length lengths ≡ 129
-  pub below : Below 129 Q a
+  pub long-a : length a ≡ maxCells
+  pub long-lengths : length lengths ≡ maxCells
+  pub below : Below maxCells Q a
   pub each : (f : PrimePower) → Among f (primePowers m) → Among f (primePowers R) ⊎ Covers S n Q a lengths f
   pub left : (f : PrimePower) → Among f (primePowers R) → Among f (primePowers m)
   pub most : (k : ℕ) → k ≤ n → at lengths k ≤ complexity m S k
-  pub past : (k : ℕ) → n < k → k < 129 → at lengths k ≡ zero
+  pub past : (k : ℕ) → n < k → k < maxCells → at lengths k ≡ zero
 
-pub gathered-start : (m : ℕ) (S : List ℕ) (n : ℕ) (a lengths : List ℕ) → 1 < m → n ≤ 128 → length a ≡ 129 → Below 129 1 a → length lengths ≡ 129
-    → Below 129 1 lengths → Gathered m S n 1 m a lengths
+pub gathered-start : (m : ℕ) (S : List ℕ) (n : ℕ) (a lengths : List ℕ) → 1 < m → n ≤ maxTerms → length a ≡ maxCells → Below maxCells 1 a → length lengths ≡ maxCells
+    → Below maxCells 1 lengths → Gathered m S n 1 m a lengths
 gathered-start m S n a lengths big few la za ll zl =
     record {
       whole = omega arith;
@@ -112,17 +113,17 @@ module _ {m : ℕ} {S : List ℕ} {n Q R : ℕ} {a lengths : List ℕ} (g : Gath
       prime-power-coprime (f .prime) (f .exponent) R′ (least-prime R big) (least-exponent R big) (least-parts R big .bare) d y x
 
   -- the ring of that prime power is fit for the steps
-  few-rows : R < 65536 → f .exponent ≤ 15
-  few-rows small = go (decLe (f .exponent) 15)
+  few-rows : R < 65536 → f .exponent ≤ maxRows
+  few-rows small = go (decLe (f .exponent) maxRows)
     where
-      go : Dec (f .exponent ≤ 15) → f .exponent ≤ 15
+      go : Dec (f .exponent ≤ maxRows) → f .exponent ≤ maxRows
       go (yes h) = h
       go (no h) =
           let up : 2 ^ 16 ≤ f .prime ^ 16 = pow-le-pow-left (least-prime R big .big) 16 in
           let on : f .prime ^ 16 ≤ v = pow-le-pow-right {n = f .prime} (omega (arith, least-prime R big .big)) {i = 16} {j = f .exponent} (omega arith) in
           absurd (omega (arith, value-most R big))
 
-  pub ring-fits : R < 65536 → Below 128 65536 S → Setting (ringOf f) S
+  pub ring-fits : R < 65536 → Below maxTerms 65536 S → Setting (ringOf f) S
   ring-fits small terms =
       record {
         prime = least-prime R big;
@@ -205,48 +206,48 @@ module _ {m : ℕ} {S : List ℕ} {n Q R : ℕ} {a lengths : List ℕ} (g : Gath
   same-Q : Q ≡ m
   same-Q = sym (mul-one Q) ∙ ap (λ (k : ℕ). Q * k) (let e : 1 ≡ R = omega (arith, g .more) in e) ∙ g .whole
 
-  pub gathered-a : a ≡ tabulate 129 (at (register m S n .a))
+  pub gathered-a : a ≡ tabulate maxCells (at (register m S n .a))
   gathered-a =
-      is-tabulate 129 (at (register m S n .a)) zero a (g .long-a)
+      is-tabulate maxCells (at (register m S n .a)) zero a (g .long-a)
       (λ i h. is-register-a m wide S n i (at a i) (omega (arith, g .below i h, same-Q)) (λ f k. all-covered f k .cells i h))
 
   length-of : (k : ℕ) → k ≤ n → at lengths k ≡ complexity m S k
   length-of k h = le-antisymm (g .most k h) (complexity-least m wide S k (at lengths k) (λ f j. all-covered f j .sizes k h))
 
-  pub gathered-lengths : lengths ≡ tabulate 129 (lengthAt m S n)
+  pub gathered-lengths : lengths ≡ tabulate maxCells (lengthAt m S n)
   unfolding lengthAt
-  gathered-lengths = is-tabulate 129 (lengthAt m S n) zero lengths (g .long-lengths) (λ k h. go k h (decLe k n))
+  gathered-lengths = is-tabulate maxCells (lengthAt m S n) zero lengths (g .long-lengths) (λ k h. go k h (decLe k n))
     where
-      go : (k : ℕ) → k < 129 → Dec (k ≤ n) → at lengths k ≡ lengthAt m S n k
+      go : (k : ℕ) → k < maxCells → Dec (k ≤ n) → at lengths k ≡ lengthAt m S n k
       go k h (yes l) = rw (le-leb k n l, lengthAt) (length-of k l)
       go k h (no l) = rw (lt-leb k n (omega arith), lengthAt) (g .past k (omega arith) h)
 
 -- ---- the whole register
 
-module _ (m : ℕ) (S : List ℕ) (n : ℕ) (a lengths : List ℕ) (wide : 1 < m) (few : n ≤ 128)
-    (ha : a ≡ tabulate 129 (at (register m S n .a))) (hl : lengths ≡ tabulate 129 (lengthAt m S n)) where
-  cell-a : (i : ℕ) → i < 129 → at a i ≡ at (register m S n .a) i
-  cell-a i h = ap (λ (x : List ℕ). at x i) ha ∙ at-tabulate 129 (at (register m S n .a)) i h
+module _ (m : ℕ) (S : List ℕ) (n : ℕ) (a lengths : List ℕ) (wide : 1 < m) (few : n ≤ maxTerms)
+    (ha : a ≡ tabulate maxCells (at (register m S n .a))) (hl : lengths ≡ tabulate maxCells (lengthAt m S n)) where
+  cell-a : (i : ℕ) → i < maxCells → at a i ≡ at (register m S n .a) i
+  cell-a i h = ap (λ (x : List ℕ). at x i) ha ∙ at-tabulate maxCells (at (register m S n .a)) i h
 
-  pub a-below : (i : ℕ) → i < 129 → at a i < m
+  pub a-below : (i : ℕ) → i < maxCells → at a i < m
   a-below i h = omega (arith, cell-a i h, register-right m wide S n .small-a i)
 
   pub length-is : at lengths n ≡ register m S n .length
   unfolding lengthAt
   length-is =
-      ap (λ (x : List ℕ). at x n) hl ∙ at-tabulate 129 (lengthAt m S n) n (omega arith)
+      ap (λ (x : List ℕ). at x n) hl ∙ at-tabulate maxCells (lengthAt m S n) n (omega arith)
       ∙ rw (le-leb n n (le-refl n), lengthAt) (sym (register-length m wide S n))
 
   pub length-most : at lengths n ≤ n
   length-most = omega (arith, length-is, register-right m wide S n .short)
 
-  b-is : (b : List ℕ) → Starts S a (at lengths n) m b → b ≡ tabulate 128 (at (register m S n .b))
-  b-is b s = is-tabulate 128 (at (register m S n .b)) zero b (s .long) (λ i h. go i h (decLt i (at lengths n)))
+  b-is : (b : List ℕ) → Starts S a (at lengths n) m b → b ≡ tabulate maxTerms (at (register m S n .b))
+  b-is b s = is-tabulate maxTerms (at (register m S n .b)) zero b (s .long) (λ i h. go i h (decLt i (at lengths n)))
     where
       R : Right m S n (register m S n)
       R = register-right m wide S n
 
-      go : (i : ℕ) → i < 128 → Dec (i < at lengths n) → at b i ≡ at (register m S n .b) i
+      go : (i : ℕ) → i < maxTerms → Dec (i < at lengths n) → at b i ≡ at (register m S n .b) i
       go i h (yes l) =
           s .below i l
           ∙ conv-cong {q = m} (at S) (at S) (at a) (at (register m S n .a)) i (λ j k. rfl) (λ j k. of-eq (cell-a j (omega arith))) .same
@@ -258,4 +259,4 @@ module _ (m : ℕ) (S : List ℕ) (n : ℕ) (a lengths : List ℕ) (wide : 1 < m
   unfolding synthesisOf
   synthesis-is b s =
       ap₂ (λ (l : ℕ) (x : List ℕ). record { length = l; a = x; b = b; lengths = lengths }) length-is ha
-      ∙ ap₂ (λ (x y : List ℕ). record { length = register m S n .length; a = tabulate 129 (at (register m S n .a)); b = x; lengths = y }) (b-is b s) hl
+      ∙ ap₂ (λ (x y : List ℕ). record { length = register m S n .length; a = tabulate maxCells (at (register m S n .a)); b = x; lengths = y }) (b-is b s) hl

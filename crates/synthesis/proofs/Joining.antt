@@ -15,6 +15,7 @@ use Rattle.residue.proofs.Congruence.{rfl, of-eq, Invertible, pow-lt}
 use Rattle.residue.proofs.Units.{coprime-invertible}
 use Rattle.residue.proofs.Remainders.{glue-left, glue-right, glue-lt, two-joined}
 use Rattle.recurrence.proofs.Theorem.{reduced}
+use Rattle.steps.specs.Sizes.{maxCells, maxTerms}
 use Rattle.steps.specs.declared.Ring.{Ring}
 use Rattle.steps.specs.Run.{Below, Setting, Result}
 use Rattle.synthesis.specs.Joining.{Joint, Glued, Raised, Extended}
@@ -36,12 +37,12 @@ joint-same q r x y hx hy e = record { below = omega (arith, mul-le-mul-left {m =
 -- ---- the loops: the cells below i are done
 
 pub record Gluing (q r : ℕ) (xs₀ ys xs : List ℕ) (i : ℕ) : Type 0 where
-  pub long : length xs ≡ 129
+  pub long : length xs ≡ maxCells
   pub done : (j : ℕ) → j < i → Joint q r (at xs₀ j) (at ys j) (at xs j)
   pub todo : (j : ℕ) → i ≤ j → at xs j ≡ at xs₀ j
 
 module _ (q r : ℕ) (xs₀ ys xs : List ℕ) (i : ℕ) (g : Gluing q r xs₀ ys xs i) where
-  pub glue-next : (v : ℕ) → i < 129 → Joint q r (at xs i) (at ys i) v → Gluing q r xs₀ ys (set xs i v) (i + 1)
+  pub glue-next : (v : ℕ) → i < maxCells → Joint q r (at xs i) (at ys i) v → Gluing q r xs₀ ys (set xs i v) (i + 1)
   glue-next v h k =
       record {
         long = length-set xs i v ∙ g .long;
@@ -60,12 +61,12 @@ module _ (q r : ℕ) (xs₀ ys xs : List ℕ) (i : ℕ) (g : Gluing q r xs₀ ys
       }
 
 pub record Raising (xs₀ ys xs : List ℕ) (i : ℕ) : Type 0 where
-  pub long : length xs ≡ 129
+  pub long : length xs ≡ maxCells
   pub done : (j : ℕ) → j < i → at xs j ≡ max (at xs₀ j) (at ys j)
   pub todo : (j : ℕ) → i ≤ j → at xs j ≡ at xs₀ j
 
 module _ (xs₀ ys xs : List ℕ) (i : ℕ) (g : Raising xs₀ ys xs i) where
-  pub raise-next : i < 129 → at xs i < at ys i → Raising xs₀ ys (set xs i (at ys i)) (i + 1)
+  pub raise-next : i < maxCells → at xs i < at ys i → Raising xs₀ ys (set xs i (at ys i)) (i + 1)
   raise-next h k =
       record {
         long = length-set xs i (at ys i) ∙ g .long;
@@ -84,11 +85,11 @@ module _ (xs₀ ys xs : List ℕ) (i : ℕ) (g : Raising xs₀ ys xs i) where
 
 -- ---- the steps at one more prime power
 
-module _ (ring : Ring) (S : List ℕ) (st : Setting ring S) (n : ℕ) (few : n ≤ 128) (row lens : List ℕ) (r : Result ring S n row lens) where
+module _ (ring : Ring) (S : List ℕ) (st : Setting ring S) (n : ℕ) (few : n ≤ maxTerms) (row lens : List ℕ) (r : Result ring S n row lens) where
   pub ring-big : 1 < ring .q
   ring-big = omega (arith, st .whole, pow-lt (ring .p) (ring .e) (st .prime .big) (st .pos), pow-zero (ring .p))
 
-  pub row-below : Below 129 (ring .q) row
+  pub row-below : Below maxCells (ring .q) row
   row-below i h = omega (arith, r .cells-a i h, reduced (ring .p) (ring .e) (st .prime) (st .pos) S zero n (st .pos) .0 i, st .whole)
 
   pub extended-is : (big : ℕ) (a lengths a′ lengths′ : List ℕ) → Glued big (ring .q) a row a′ → Raised lengths lens lengths′

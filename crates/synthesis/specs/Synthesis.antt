@@ -6,6 +6,7 @@ use lib.Dec.{leb}
 use Rattle.lists.specs.Choice.{pick}
 use Rattle.lists.specs.Table.{at, tabulate}
 use Rattle.recurrence.specs.Register.{complexity, register}
+use Rattle.steps.specs.Sizes.{maxCells, maxTerms}
 use Rattle.synthesis.specs.declared.Synthesis.{Synthesis}
 
 -- the linear complexity of the first k of n terms; past n, 0
@@ -16,7 +17,7 @@ unfoldable pub synthesisOf : ℕ → List ℕ → ℕ → Synthesis
 synthesisOf m S n =
     record {
       length = register m S n .length;
-      a = tabulate 129 (at (register m S n .a));
-      b = tabulate 128 (at (register m S n .b));
-      lengths = tabulate 129 (lengthAt m S n);
+      a = tabulate maxCells (at (register m S n .a));
+      b = tabulate maxTerms (at (register m S n .b));
+      lengths = tabulate maxCells (lengthAt m S n);
     }

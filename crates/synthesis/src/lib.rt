@@ -1,11 +1,15 @@
 // The register modulo m: the steps at each prime power of m, joined by remainders (Reeds and Sloane, section 3).
+use steps::CELLS;
 use steps::Ring;
+use steps::TERMS;
 ghost use mathlib.Core.Path.{_≡_};
 ghost use Prim.Native.Nat.{ℕ, _*_, _≤_, _<_, max};
 ghost use lib.ListN.{length};
 ghost use Rattle.lists.specs.Table.{at, tabulate};
 ghost use Rattle.residue.specs.Units.{Coprime};
+ghost use Rattle.residue.specs.Factors.{divisorsEnd};
 ghost use Rattle.recurrence.specs.Register.{register};
+ghost use Rattle.steps.specs.Sizes.{maxTerms, maxCells};
 ghost use Rattle.steps.specs.Run.{Below, Setting};
 ghost use Rattle.synthesis.specs.Joining.{Glued, Raised, Extended, Starts};
 ghost use Rattle.synthesis.specs.Synthesis.{lengthAt, synthesisOf};
@@ -13,20 +17,20 @@ ghost use Rattle.synthesis.specs.Synthesis.{lengthAt, synthesisOf};
 // The shortest register of the first terms, and the linear complexity of the first 0, 1, .. of them.
 pub struct Synthesis {
     pub length: u32,
-    pub a: [u32; 129],
-    pub b: [u32; 128],
-    pub lengths: [u32; 129],
+    pub a: [u32; CELLS],
+    pub b: [u32; TERMS],
+    pub lengths: [u32; CELLS],
 }
 
 // Makes each cell of a, known modulo big, known modulo big q by the row's cell modulo q. Where both are the same number, it is that one.
-fn join_cells(a: &mut [u32; 129], big: u32, row: &[u32; 129], q: u32)
-    requires { ⌜ (length (now a) ≡ 129) × (0 < big) × (1 < q) × (big * q < 65536) × Coprime big q × Below 129 big (now a)
-        × Below 129 q (now row) ⌝ }
+fn join_cells(a: &mut [u32; CELLS], big: u32, row: &[u32; CELLS], q: u32)
+    requires { ⌜ (length (now a) ≡ maxCells) × (0 < big) × (1 < q) × (big * q < 65536) × Coprime big q × Below maxCells big (now a)
+        × Below maxCells q (now row) ⌝ }
     ensures { λ _. ⌜ Glued big q (now (a .entry)) (now (row .entry)) (now (a .exit)) ⌝ }
 {
     let unit = residue::joiner(big, q);
     let mut i: usize = 0;
-    while i < 129 {
+    while i < CELLS {
         let z = a[i];
         let x = row[i];
         if z == x {
@@ -39,12 +43,12 @@ fn join_cells(a: &mut [u32; 129], big: u32, row: &[u32; 129], q: u32)
 }
 
 // Makes each length the larger of the two.
-fn raise(lengths: &mut [u32; 129], lens: &[u32; 129])
-    requires { ⌜ length (now lengths) ≡ 129 ⌝ }
+fn raise(lengths: &mut [u32; CELLS], lens: &[u32; CELLS])
+    requires { ⌜ length (now lengths) ≡ maxCells ⌝ }
     ensures { λ _. ⌜ Raised (now (lengths .entry)) (now (lens .entry)) (now (lengths .exit)) ⌝ }
 {
     let mut i: usize = 0;
-    while i < 129 {
+    while i < CELLS {
         let l = lens[i];
         if l <= lengths[i] {
             i += 1;
@@ -59,18 +63,18 @@ fn raise(lengths: &mut [u32; 129], lens: &[u32; 129])
 fn extend(
     ring: Ring,
     big: u32,
-    terms: &[u32; 128],
+    terms: &[u32; TERMS],
     count: usize,
-    a: &mut [u32; 129],
-    lengths: &mut [u32; 129],
+    a: &mut [u32; CELLS],
+    lengths: &mut [u32; CELLS],
 )
-    requires { ⌜ Setting ring (now terms) × (count ≤ 128) × (0 < big) × (big * ring .q < 65536) × Coprime big (ring .q)
-        × (length (now a) ≡ 129) × Below 129 big (now a) × (length (now lengths) ≡ 129) ⌝ }
+    requires { ⌜ Setting ring (now terms) × (count ≤ maxTerms) × (0 < big) × (big * ring .q < 65536) × Coprime big (ring .q)
+        × (length (now a) ≡ maxCells) × Below maxCells big (now a) × (length (now lengths) ≡ maxCells) ⌝ }
     ensures { λ _. ⌜ Extended ring (now (terms .entry)) count big (now (a .entry)) (now (lengths .entry)) (now (a .exit))
         (now (lengths .exit)) ⌝ }
 {
-    let mut row = [0u32; 129];
-    let mut lens = [0u32; 129];
+    let mut row = [0u32; CELLS];
+    let mut lens = [0u32; CELLS];
     steps::run(terms, count, ring, &mut row, &mut lens);
     raise(lengths, &lens);
     if big == 1 {
@@ -83,15 +87,15 @@ fn extend(
 // a and the lengths, from the prime powers of the modulus, the least prime first.
 fn gather(
     modulus: u32,
-    terms: &[u32; 128],
+    terms: &[u32; TERMS],
     count: usize,
-    a: &mut [u32; 129],
-    lengths: &mut [u32; 129],
+    a: &mut [u32; CELLS],
+    lengths: &mut [u32; CELLS],
 )
-    requires { ⌜ (2 ≤ modulus) × (modulus < 4096) × (count ≤ 128) × Below 128 65536 (now terms) × (length (now a) ≡ 129)
-        × Below 129 1 (now a) × (length (now lengths) ≡ 129) × Below 129 1 (now lengths) ⌝ }
-    ensures { λ _. ⌜ (now (a .exit) ≡ tabulate 129 (at (register modulus (now (terms .entry)) count .a)))
-        × (now (lengths .exit) ≡ tabulate 129 (lengthAt modulus (now (terms .entry)) count)) ⌝ }
+    requires { ⌜ (2 ≤ modulus) × (modulus < divisorsEnd) × (count ≤ maxTerms) × Below maxTerms 65536 (now terms) × (length (now a) ≡ maxCells)
+        × Below maxCells 1 (now a) × (length (now lengths) ≡ maxCells) × Below maxCells 1 (now lengths) ⌝ }
+    ensures { λ _. ⌜ (now (a .exit) ≡ tabulate maxCells (at (register modulus (now (terms .entry)) count .a)))
+        × (now (lengths .exit) ≡ tabulate maxCells (lengthAt modulus (now (terms .entry)) count)) ⌝ }
 {
     let mut big: u32 = 1;
     let mut rest = modulus;
@@ -112,11 +116,11 @@ fn gather(
 
 // b from a: the register generates its terms, so that b_j is coefficient j of terms times a, and it has only l cells. So b is found
 // once, modulo m, and never joined.
-fn start_cells(a: &[u32; 129], terms: &[u32; 128], l: usize, m: u32) -> [u32; 128]
-    requires { ⌜ (l ≤ 128) × (0 < m) × Below 129 65536 (now a) × Below 128 65536 (now terms) ⌝ }
+fn start_cells(a: &[u32; CELLS], terms: &[u32; TERMS], l: usize, m: u32) -> [u32; TERMS]
+    requires { ⌜ (l ≤ maxTerms) × (0 < m) × Below maxCells 65536 (now a) × Below maxTerms 65536 (now terms) ⌝ }
     ensures { λ r. ⌜ Starts (now (terms .entry)) (now (a .entry)) l m r ⌝ }
 {
-    let mut b = [0u32; 128];
+    let mut b = [0u32; TERMS];
     let mut i: usize = 0;
     while i < l {
         b[i] = steps::coefficient(a, terms, i, i, m);
@@ -126,12 +130,12 @@ fn start_cells(a: &[u32; 129], terms: &[u32; 128], l: usize, m: u32) -> [u32; 12
 }
 
 // The shortest register of the first `count` terms modulo `modulus`. The terms need not be below the modulus.
-pub fn synthesize(modulus: u32, terms: &[u32; 128], count: usize) -> Synthesis
-    requires { ⌜ (2 ≤ modulus) × (modulus < 4096) × (count ≤ 128) × Below 128 65536 (now terms) ⌝ }
+pub fn synthesize(modulus: u32, terms: &[u32; TERMS], count: usize) -> Synthesis
+    requires { ⌜ (2 ≤ modulus) × (modulus < divisorsEnd) × (count ≤ maxTerms) × Below maxTerms 65536 (now terms) ⌝ }
     ensures { λ r. ⌜ r ≡ synthesisOf modulus (now (terms .entry)) count ⌝ }
 {
-    let mut a = [0u32; 129];
-    let mut lengths = [0u32; 129];
+    let mut a = [0u32; CELLS];
+    let mut lengths = [0u32; CELLS];
     gather(modulus, terms, count, &mut a, &mut lengths);
     let length = lengths[count];
     let b = start_cells(&a, terms, length as usize, modulus);

@@ -4,6 +4,7 @@ use borrow.Author.Needs.{needs}
 use borrow.Author.Tests.{lt-ltb, le-ltb, eq-eqb, ne-eqb}
 use native.Mathlib.Omega.{arith}
 use Rattle.cells.proofs.Laws.{at-cells}
+use Rattle.sequence.specs.Limits.{maxCells}
 use Rattle.candidate.specs.Rules.{flawOf}
 use Rattle.candidate.proofs.find_flaw.Statement.{statement}
 use Rattle.candidate.proofs.find_flaw.Tie as tie
@@ -47,7 +48,7 @@ returns-2 c =
       r .if4 .taken,
       ← t .before .zero-past2 .ensures,
       t .if5 .taken,
-      at-cells _ 129 0 (omega arith),
+      at-cells _ maxCells 0 (omega arith),
       ← c .before .cell .ensures .0,
       eq-eqb _ _ (c .if6 .taken),
     )
@@ -69,7 +70,7 @@ returns-3 c =
       r .if4 .taken,
       ← t .before .zero-past2 .ensures,
       t .if5 .taken,
-      at-cells _ 129 0 (omega arith),
+      at-cells _ maxCells 0 (omega arith),
       ← c .before .cell .ensures .0,
       ne-eqb _ _ (c .if6 .left),
     )

@@ -13,6 +13,7 @@ use Rattle.lists.proofs.Search.{is-first}
 use Rattle.cells.proofs.Laws.{at-cells}
 use Rattle.recurrence.specs.Polynomial.{conv}
 use Rattle.recurrence.specs.Running.{firstDifference}
+use Rattle.sequence.specs.Limits.{maxTerms}
 use Rattle.candidate.specs.Rules.{aCells, bCells}
 use Rattle.candidate.proofs.Laws.{Summed, summed-none, summed-more, places, is-place, agrees, differs}
 use Rattle.candidate.proofs.first_difference.Statement.{statement}
@@ -28,7 +29,7 @@ abbrev Inv-places : tie.InvT-places
 Inv-places terms a b n m j₀ j = (k : ℕ) → k < j → not (eqb (conv (at terms) (at (aCells a)) k % m) (at (bCells b) k)) ≡ false
 
 abbrev μ-places : tie.MeasureT-places
-μ-places terms a b n m j₀ j = 128 - j
+μ-places terms a b n m j₀ j = maxTerms - j
 
 places-holds : tie.Need-places-holds Inv-loop μ-loop Inv-places μ-places
 places-holds c = λ k h. absurd (not-suc-le-zero h)
@@ -91,7 +92,7 @@ places-again c =
     let v = p .before .before .before .args in
     below-more _ _ (p .places .inv)
     (agrees (v .terms .now) (aCells (v .a .now)) (bCells (v .b .now)) (v .m) (p .places .j) (l .loop .i) (l .loop .sum) _ (l .loop .inv .0) (c .before .before .if2 .taken) (l .loop .inv .1)
-    (c .before .cell .ensures .0 ∙ sym (at-cells (v .b .now) 128 (p .places .j) (omega arith))) (c .if3 .taken))
+    (c .before .cell .ensures .0 ∙ sym (at-cells (v .b .now) maxTerms (p .places .j) (omega arith))) (c .if3 .taken))
 
 returns : tie.Need-returns Inv-loop μ-loop Inv-places μ-places
 unfolding firstDifference
@@ -105,7 +106,7 @@ returns-2 c =
     let v = p .before .before .before .args in
     is-first _ _ _ (omega arith) (p .places .inv) λ h.
     differs (v .terms .now) (aCells (v .a .now)) (bCells (v .b .now)) (v .m) (p .places .j) (l .loop .i) (l .loop .sum) _ (l .loop .inv .0) (c .before .before .if2 .taken) (l .loop .inv .1)
-    (c .before .cell .ensures .0 ∙ sym (at-cells (v .b .now) 128 (p .places .j) (omega arith))) (c .if3 .left)
+    (c .before .cell .ensures .0 ∙ sym (at-cells (v .b .now) maxTerms (p .places .j) (omega arith))) (c .if3 .left)
 
 pub first-difference-spec : {M : Type 1} → statement M
 first-difference-spec =

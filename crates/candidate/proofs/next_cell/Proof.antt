@@ -7,6 +7,7 @@ use native.Mathlib.Omega.{arith}
 use borrow.Author.Needs.{needs}
 use Rattle.cells.specs.Cell.{cellsFrom}
 use Rattle.cells.proofs.Laws.{at-cells}
+use Rattle.sequence.specs.Limits.{maxTerms}
 use Rattle.candidate.specs.Rules.{aCells, bCells}
 use Rattle.candidate.proofs.Laws.{Summed, summed-none, summed-more, backs, is-back, is-next}
 use Rattle.candidate.proofs.next_cell.Statement.{statement}
@@ -77,14 +78,14 @@ sub-requires : tie.Need-sub-requires Inv-loop μ-loop
 sub-requires c κs =
     let s = c .before .before .before .before .before .before .before in
     let v = s .args in
-    (omega (arith, at-cells (v .b .now) 128 (v .j) (s .pre .5)), mod-lt _ (s .pre .0), s .pre .1)
+    (omega (arith, at-cells (v .b .now) maxTerms (v .j) (s .pre .5)), mod-lt _ (s .pre .0), s .pre .1)
 
 returns : tie.Need-returns Inv-loop μ-loop
 returns c =
     let v = c .before .before .before .before .before .before .before .before .args in
     let l = c .before .before .before in
     is-next (v .m) (v .l) (aCells (v .a .now)) (bCells (v .b .now)) (cellsFrom (v .out .now) 0 (v .j)) (v .j) (l .loop .i) (l .loop .sum) (c .before .cell3 .result) _ (omega arith) (l .loop .inv .0 .is)
-    (c .before .cell3 .ensures .0 ∙ sym (at-cells (v .b .now) 128 (v .j) (omega arith))) (c .sub .ensures)
+    (c .before .cell3 .ensures .0 ∙ sym (at-cells (v .b .now) maxTerms (v .j) (omega arith))) (c .sub .ensures)
 
 pub next-cell-spec : {M : Type 1} → statement M
 next-cell-spec =

@@ -8,7 +8,7 @@ use native.Mathlib.Omega.{arith}
 use borrow.Author.Count.{below-more}
 use borrow.Author.Needs.{needs}
 use Rattle.cells.specs.Cell.{equal}
-use Rattle.catalogue.specs.Rules.{queryAt}
+use Rattle.catalogue.specs.Rules.{recordBytes, queryAt}
 use Rattle.catalogue.proofs.Laws.{cut-query, found, missed}
 use Rattle.catalogue.proofs.find.Statement.{statement}
 use Rattle.catalogue.proofs.find.Tie as tie
@@ -44,7 +44,7 @@ returns : tie.Need-returns Inv-loop μ-loop
 returns c =
     let l = c .before .before .before .before in
     let s = l .before .before .before .args in
-    let told = sym (cut-query (s .query .now) (s .catalogue .now) (l .loop .i * 776)) ∙ sym (c .before .is-of .ensures) ∙ c .if1 .taken in
+    let told = sym (cut-query (s .query .now) (s .catalogue .now) (l .loop .i * recordBytes)) ∙ sym (c .before .is-of .ensures) ∙ c .if1 .taken in
     found _ _ _ (c .before .before .before .loop-test .taken) (l .loop .inv .1) told
 
 add-i : tie.Need-add-i Inv-loop μ-loop
@@ -57,7 +57,7 @@ loop-again : tie.Need-loop-again Inv-loop μ-loop
 loop-again c =
     let l = c .before .before .before .before in
     let s = l .before .before .before .args in
-    let told = sym (cut-query (s .query .now) (s .catalogue .now) (l .loop .i * 776)) ∙ sym (c .before .is-of .ensures) ∙ c .if1 .left in
+    let told = sym (cut-query (s .query .now) (s .catalogue .now) (l .loop .i * recordBytes)) ∙ sym (c .before .is-of .ensures) ∙ c .if1 .left in
     (omega arith, below-more _ _ (l .loop .inv .1) told)
 
 returns-2 : tie.Need-returns-2 Inv-loop μ-loop

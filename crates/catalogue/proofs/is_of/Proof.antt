@@ -8,6 +8,7 @@ use lib.ListN.{take}
 use lib.Seq.{take-all}
 use borrow.Author.Needs.{needs}
 use Rattle.cells.specs.Cell.{equal}
+use Rattle.sequence.specs.Limits.{queryBytes}
 use Rattle.catalogue.proofs.Laws.{word-tells}
 use Rattle.catalogue.proofs.is_of.Statement.{statement}
 use Rattle.catalogue.proofs.is_of.Tie as tie
@@ -47,7 +48,7 @@ same-requires c κs = search needs
 returns-2 : tie.Need-returns-2
 returns-2 c =
     let s = c .before .before .before .before .before .before .before .before in
-    c .same .ensures ∙ ap (λ (z : List ℕ). equal z (take 260 (s .args .entry .now))) (take-all 260 (s .args .query .now) (omega (arith, s .pre .0)))
+    c .same .ensures ∙ ap (λ (z : List ℕ). equal z (take queryBytes (s .args .entry .now))) (take-all queryBytes (s .args .query .now) (omega (arith, s .pre .0)))
 
 pub is-of-spec : {M : Type 1} → statement M
 is-of-spec =

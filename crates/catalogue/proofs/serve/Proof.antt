@@ -3,6 +3,7 @@
 use mathlib.Core.Path.{refl, _∙_}
 use Prim.Native.Nat.{_*_}
 use borrow.Author.Needs.{needs}
+use Rattle.catalogue.specs.Rules.{recordBytes}
 use Rattle.catalogue.proofs.Laws.{cut-record}
 use Rattle.catalogue.proofs.serve.Statement.{statement}
 use Rattle.catalogue.proofs.serve.Tie as tie
@@ -35,14 +36,14 @@ returns : tie.Need-returns
 returns c =
     let g = c .before .before .before .before in
     let s = g .before .before .before .before .before .before .args in (
-      simp (← cut-record (s .catalogue .now) (s .i * 776), ← g .before .is-good .ensures, g .if1 .taken),
-      c .before .before .copy .ensures ∙ cut-record (s .catalogue .now) (s .i * 776),
+      simp (← cut-record (s .catalogue .now) (s .i * recordBytes), ← g .before .is-good .ensures, g .if1 .taken),
+      c .before .before .copy .ensures ∙ cut-record (s .catalogue .now) (s .i * recordBytes),
     )
 
 returns-2 : tie.Need-returns-2
 returns-2 c =
     let s = c .before .before .before .before .before .before .args in
-    (simp (← cut-record (s .catalogue .now) (s .i * 776), ← c .before .is-good .ensures, c .if1 .left), refl)
+    (simp (← cut-record (s .catalogue .now) (s .i * recordBytes), ← c .before .is-good .ensures, c .if1 .left), refl)
 
 pub serve-spec : {M : Type 1} → statement M
 serve-spec =

@@ -4,6 +4,7 @@ use mathlib.Core.Path.{sym, subst, _∙_}
 use native.Mathlib.Omega.{arith}
 use lib.Seq.{length-take-le}
 use borrow.Author.Needs.{needs}
+use Rattle.sequence.specs.Limits.{queryBytes}
 use Rattle.sequence.specs.Rules.{IsSound}
 use Rattle.sequence.proofs.Laws.{check-done}
 use Rattle.sequence.proofs.Report.{long-a, long-b}
@@ -29,7 +30,7 @@ part-copy-end c = search needs
 copy-requires : tie.Need-copy-requires
 copy-requires c κs =
     let s = c .before .before .before .before .before in
-    check-done _ (s .pre .0) .0 ∙ sym (length-take-le 260 (s .args .out .now) (omega (arith, s .pre .1)))
+    check-done _ (s .pre .0) .0 ∙ sym (length-take-le queryBytes (s .args .out .now) (omega (arith, s .pre .1)))
 
 sub-put : tie.Need-sub-put
 sub-put c = search needs

@@ -4,12 +4,13 @@ use Prim.Native.Nat.{_-_}
 use borrow.Author.Needs.{needs}
 use Rattle.listing.proofs.coefficients.Statement.{statement}
 use Rattle.listing.proofs.coefficients.Tie as tie
+use Rattle.sequence.specs.Limits.{maxCells}
 
 abbrev Inv-loop : tie.InvT-loop
 Inv-loop entry l i₀ i = Unit {0}
 
 abbrev μ-loop : tie.MeasureT-loop
-μ-loop entry l i₀ i = 129 - i
+μ-loop entry l i₀ i = maxCells - i
 
 cell-requires : tie.Need-cell-requires Inv-loop μ-loop
 cell-requires c κs = search needs

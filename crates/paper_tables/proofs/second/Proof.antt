@@ -8,6 +8,7 @@ use lib.Seq.{getD-set-other}
 use Rattle.lists.specs.Table.{at}
 use Rattle.lists.proofs.Table.{each-next}
 use Rattle.recurrence.specs.Polynomial.{conv}
+use Rattle.steps.specs.Sizes.{maxCells}
 use Rattle.steps.proofs.Passes.{line-blank}
 use borrow.Author.Needs.{needs}
 use Rattle.paper_tables.proofs.second.Statement.{statement}
@@ -15,13 +16,13 @@ use Rattle.paper_tables.proofs.second.Tie as tie
 
 abbrev Inv-loop : tie.InvT-loop
 Inv-loop s a l q b₀ i₀ b i =
-    (i ≤ l) × (length b ≡ 129) × ((j : ℕ) → j < i → at b j ≡ conv (at s) (at a) j % q) × ((j : ℕ) → i ≤ j → at b j ≡ zero)
+    (i ≤ l) × (length b ≡ maxCells) × ((j : ℕ) → j < i → at b j ≡ conv (at s) (at a) j % q) × ((j : ℕ) → i ≤ j → at b j ≡ zero)
 
 abbrev μ-loop : tie.MeasureT-loop
 μ-loop s a l q b₀ i₀ b i = l - i
 
 loop-holds : tie.Need-loop-holds Inv-loop μ-loop
-loop-holds c = (omega arith, length-replicate 129 zero, λ j h. absurd (omega arith), λ j h. line-blank 129 j)
+loop-holds c = (omega arith, length-replicate maxCells zero, λ j h. absurd (omega arith), λ j h. line-blank maxCells j)
 
 coefficient-requires : tie.Need-coefficient-requires Inv-loop μ-loop
 coefficient-requires c κs =

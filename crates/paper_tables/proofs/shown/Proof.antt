@@ -4,9 +4,10 @@ use Prim.Native.Nat.{_≤_}
 use borrow.Author.Needs.{needs}
 use Rattle.paper_tables.proofs.shown.Statement.{statement}
 use Rattle.paper_tables.proofs.shown.Tie as tie
+use Rattle.steps.specs.Sizes.{maxCells}
 
 abbrev Inv-loop : tie.InvT-loop
-Inv-loop x n₀ n = n ≤ 129
+Inv-loop x n₀ n = n ≤ maxCells
 
 abbrev μ-loop : tie.MeasureT-loop
 μ-loop x n₀ n = n

@@ -4,12 +4,13 @@ use Prim.Native.Nat.{_-_}
 use borrow.Author.Needs.{needs}
 use Rattle.replay.proofs.hash_sequence.Statement.{statement}
 use Rattle.replay.proofs.hash_sequence.Tie as tie
+use Rattle.steps.specs.Sizes.{maxTerms}
 
 abbrev Inv-loop : tie.InvT-loop
 Inv-loop h₀ terms i₀ h i = Unit {0}
 
 abbrev μ-loop : tie.MeasureT-loop
-μ-loop h₀ terms i₀ h i = 128 - i
+μ-loop h₀ terms i₀ h i = maxTerms - i
 
 mixed-cell-requires : tie.Need-mixed-cell-requires Inv-loop μ-loop
 mixed-cell-requires c κs = search needs

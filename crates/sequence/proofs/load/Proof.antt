@@ -6,16 +6,17 @@ use native.Mathlib.Omega.{arith}
 use borrow.Author.Needs.{needs}
 use Rattle.lists.proofs.Table.{Filled, filled-none, filled-more, filled-all}
 use Rattle.cells.specs.Cell.{cellAt}
+use Rattle.sequence.specs.Limits.{maxTerms}
 use Rattle.sequence.specs.Rules.{sequenceOf}
 use Rattle.sequence.proofs.Laws.{same}
 use Rattle.sequence.proofs.load.Statement.{statement}
 use Rattle.sequence.proofs.load.Tie as tie
 
 abbrev Inv-loop : tie.InvT-loop
-Inv-loop query terms₀ i₀ terms i = (Filled 0 (λ (j : ℕ). cellAt query (2 + j)) 128 i terms) × (i ≤ 128)
+Inv-loop query terms₀ i₀ terms i = (Filled 0 (λ (j : ℕ). cellAt query (2 + j)) maxTerms i terms) × (i ≤ maxTerms)
 
 abbrev μ-loop : tie.MeasureT-loop
-μ-loop query terms₀ i₀ terms i = 128 - i
+μ-loop query terms₀ i₀ terms i = maxTerms - i
 
 loop-holds : tie.Need-loop-holds Inv-loop μ-loop
 loop-holds c = (filled-none _ refl, search needs)

@@ -9,6 +9,7 @@ use lib.ListN.{drop}
 use borrow.Rule.Slice.PartMut.{putMid}
 use Rattle.cells.specs.Cell.{bytesOf}
 use Rattle.cells.proofs.Laws.{length-bytesOf}
+use Rattle.sequence.specs.Limits.{aBytes, bBytes}
 use Rattle.sequence.proofs.Report.{two-parts}
 use Rattle.sequence.proofs.write_register.Statement.{statement}
 use Rattle.sequence.proofs.write_register.Tie as tie
@@ -51,7 +52,7 @@ returns c =
     let v = c .before .before .before .before .before .before .before .before .before .before .before .before .before in
     let first = c .before .before .before .before .before .before .before .write in
     let second = c .before .before .write2 in
-    ap₂ (λ (x y : List ℕ). putMid 258 256 (x ++ drop 258 (v .args .out .now)) y) (first .ensures) (second .ensures)
+    ap₂ (λ (x y : List ℕ). putMid aBytes bBytes (x ++ drop aBytes (v .args .out .now)) y) (first .ensures) (second .ensures)
     ∙ two-parts (bytesOf (v .args .x .a)) (bytesOf (v .args .x .b)) (v .args .out .now) (omega (arith, length-bytesOf (v .args .x .a), v .pre .0)) (v .pre .2)
 
 pub write-register-spec : {M : Type 1} → statement M

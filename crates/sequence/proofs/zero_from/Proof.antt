@@ -11,6 +11,7 @@ use borrow.Author.Tests.{lt-ltb, le-ltb, eq-eqb, ne-eqb}
 use Rattle.lists.specs.Choice.{pick}
 use Rattle.lists.specs.Table.{at}
 use Rattle.lists.proofs.Search.{all-true, all-false}
+use Rattle.sequence.specs.Limits.{maxTerms}
 use Rattle.sequence.proofs.zero_from.Statement.{statement}
 use Rattle.sequence.proofs.zero_from.Tie as tie
 
@@ -18,7 +19,7 @@ abbrev Inv-loop : tie.InvT-loop
 Inv-loop terms n i₀ i = (n ≤ i) × ((j : ℕ) → j < i → pick (ltb j n) true (eqb (at terms j) 0) ≡ true)
 
 abbrev μ-loop : tie.MeasureT-loop
-μ-loop terms n i₀ i = 128 - i
+μ-loop terms n i₀ i = maxTerms - i
 
 loop-holds : tie.Need-loop-holds Inv-loop μ-loop
 loop-holds c = (search needs, λ j h. rw (lt-ltb j _ h))
@@ -30,7 +31,7 @@ element-copy-out-if1 : tie.Need-element-copy-out-if1 Inv-loop μ-loop
 element-copy-out-if1 c = search needs
 
 returns : tie.Need-returns Inv-loop μ-loop
-returns c = sym (all-false 128 _ (c .before .before .before .loop .i) (c .before .before .loop-test .taken) (rw (le-ltb _ _ (c .before .before .before .loop .inv .0), ne-eqb _ _ (c .if1 .taken))))
+returns c = sym (all-false maxTerms _ (c .before .before .before .loop .i) (c .before .before .loop-test .taken) (rw (le-ltb _ _ (c .before .before .before .loop .inv .0), ne-eqb _ _ (c .if1 .taken))))
 
 add-i : tie.Need-add-i Inv-loop μ-loop
 add-i c = search needs

@@ -9,6 +9,7 @@ use lib.ListN.{getD}
 use borrow.Author.Needs.{needs}
 use Rattle.lists.specs.Table.{at}
 use Rattle.residue.proofs.Reduction.{product-below, product-low}
+use Rattle.steps.specs.Sizes.{maxCells}
 use Rattle.steps.specs.Passes.{Added}
 use Rattle.steps.proofs.change.Statement.{statement}
 use Rattle.steps.proofs.change.Tie as tie
@@ -105,7 +106,7 @@ returns-3 c =
       long = c .combine .ensures .long;
       stay = λ h. absurd (omega arith);
       fresh = λ h n. absurd (omega arith);
-      moved = λ h n. subst (λ (v : ℕ). Added 129 (a .ring .q) (a .ring .q - v) (a .k - at (a .when .now) g) (a .x .now) (getD (a .old .now) g []) (c .combine .last .0)) (c .before .before .before .before .before .before .reduce .ensures) (c .combine .ensures);
+      moved = λ h n. subst (λ (v : ℕ). Added maxCells (a .ring .q) (a .ring .q - v) (a .k - at (a .when .now) g) (a .x .now) (getD (a .old .now) g []) (c .combine .last .0)) (c .before .before .before .before .before .before .reduce .ensures) (c .combine .ensures);
     }
 
 pub change-spec : {M : Type 1} → statement M

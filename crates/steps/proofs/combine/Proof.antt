@@ -6,12 +6,13 @@ use native.Mathlib.Nat.{le-refl}
 use native.Mathlib.Omega.{arith}
 use Rattle.lists.specs.Table.{at}
 use Rattle.residue.proofs.Reduction.{product-below, product-low}
+use Rattle.steps.specs.Sizes.{maxCells}
 use Rattle.steps.proofs.Cells.{Adding, add-start, add-next, add-done}
 use Rattle.steps.proofs.combine.Statement.{statement}
 use Rattle.steps.proofs.combine.Tie as tie
 
 abbrev Inv-loop : tie.InvT-loop
-Inv-loop x₀ y f s n ring end i₀ x i = Adding 129 (ring .q) f s x₀ y x i × (i ≤ end)
+Inv-loop x₀ y f s n ring end i₀ x i = Adding maxCells (ring .q) f s x₀ y x i × (i ≤ end)
 
 abbrev μ-loop : tie.MeasureT-loop
 μ-loop x₀ y f s n ring end i₀ x i = end - i
@@ -20,7 +21,7 @@ add-end : tie.Need-add-end Inv-loop μ-loop
 add-end c = omega arith
 
 loop-holds : tie.Need-loop-holds Inv-loop μ-loop
-loop-holds c = (add-start 129 (c .args .ring .q) (c .args .f) (c .args .s) (c .args .x .now) (c .args .y .now) (c .pre .5), omega arith)
+loop-holds c = (add-start maxCells (c .args .ring .q) (c .args .f) (c .args .s) (c .args .x .now) (c .args .y .now) (c .pre .5), omega arith)
 
 mul-reduce : tie.Need-mul-reduce Inv-loop μ-loop
 mul-reduce c = omega arith
@@ -80,7 +81,7 @@ loop-again c =
     let z = c .before .before .before .before .before in
     let a = z .args in
     let l = c .before .before .before .before .loop in (
-      add-next 129 (a .ring .q) (a .f) (a .s) (a .x .now) (a .y .now) (z .pre .5) (l .x) (l .i) _ (l .inv .0) (omega arith) (c .reduce .ensures),
+      add-next maxCells (a .ring .q) (a .f) (a .s) (a .x .now) (a .y .now) (z .pre .5) (l .x) (l .i) _ (l .inv .0) (omega arith) (c .reduce .ensures),
       omega arith,
     )
 
@@ -88,7 +89,7 @@ returns : tie.Need-returns Inv-loop μ-loop
 returns c =
     let z = c .before .before in
     let l = c .before .loop in
-    add-done 129 (z .args .ring .q) (z .args .f) (z .args .s) (z .args .x .now) (z .args .y .now) (z .pre .5) (z .args .n) (l .i) (l .x) (z .pre .7) (omega arith) (l .inv .0)
+    add-done maxCells (z .args .ring .q) (z .args .f) (z .args .s) (z .args .x .now) (z .args .y .now) (z .pre .5) (z .args .n) (l .i) (l .x) (z .pre .7) (omega arith) (l .inv .0)
 
 pub combine-spec : {M : Type 1} → statement M
 combine-spec =

@@ -8,13 +8,14 @@ use Rattle.lists.specs.Table.{at}
 use Rattle.lists.proofs.Table.{each-next}
 use Rattle.residue.specs.Valuation.{valuation, cofactor}
 use Rattle.recurrence.proofs.Steps.{u-at, θ-at}
+use Rattle.steps.specs.Sizes.{maxRows}
 use Rattle.steps.proofs.Model.{q-up, p-up, len-low, row-low, row-clear, d-code}
 use Rattle.steps.proofs.look.Statement.{statement}
 use Rattle.steps.proofs.look.Tie as tie
 
 abbrev Inv-loop : tie.InvT-loop
 Inv-loop cur len s k ring us₀ ts₀ i₀ us ts i =
-    (i ≤ ring .e) × (length us ≡ 15) × (length ts ≡ 15)
+    (i ≤ ring .e) × (length us ≡ maxRows) × (length ts ≡ maxRows)
     × ((η : ℕ) → η < i → at us η ≡ u-at (ring .p) (ring .e) s η k)
     × ((η : ℕ) → η < i → at ts η ≡ θ-at (ring .p) (ring .e) s η k)
 

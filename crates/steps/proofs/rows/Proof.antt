@@ -5,6 +5,7 @@ use Prim.Native.Nat.{zero, _≤_, _-_}
 use native.Mathlib.Numerals.{add-one}
 use native.Mathlib.Omega.{arith}
 use lib.ListN.{replicate}
+use Rattle.steps.specs.Sizes.{maxCells, maxRows}
 use Rattle.steps.specs.State.{State, Spare}
 use Rattle.steps.proofs.Passes.{state-at, zeros-shape, zeros-blank, line-blank, line-long}
 use Rattle.steps.proofs.Model.{p-up, whole-low, start-code}
@@ -34,7 +35,7 @@ loop-holds c =
     let r = a .ring in
     let st = z .pre .0 in (
       omega arith,
-      start-code r (a .s .now) st _ _ (replicate 15 (replicate 129 zero)) (replicate 15 zero) (replicate 15 zero) (replicate 15 zero) (replicate 15 zero) (c .start .ensures) zeros-shape (line-blank 15) line-long line-long line-long line-long,
+      start-code r (a .s .now) st _ _ (replicate maxRows (replicate maxCells zero)) (replicate maxRows zero) (replicate maxRows zero) (replicate maxRows zero) (replicate maxRows zero) (c .start .ensures) zeros-shape (line-blank maxRows) line-long line-long line-long line-long,
       record { long-next = line-long; shape-saved = zeros-shape; long-us = line-long; long-ts = line-long },
     )
 

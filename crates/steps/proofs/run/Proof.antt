@@ -8,6 +8,7 @@ use lib.ListN.{length, length-set, length-replicate, replicate}
 use lib.Seq.{getD-set-other}
 use Rattle.lists.specs.Table.{at}
 use Rattle.recurrence.proofs.Steps.{L-at}
+use Rattle.steps.specs.Sizes.{maxCells, maxTerms, maxRows}
 use Rattle.steps.specs.State.{State, Spare}
 use Rattle.steps.proofs.Passes.{state-at, zeros-shape, zeros-blank, line-blank, line-long}
 use Rattle.steps.proofs.Model.{p-up, whole-low, len-low, start-code, lens-first, lens-next}
@@ -16,7 +17,7 @@ use Rattle.steps.proofs.run.Tie as tie
 
 abbrev Inv-loop : tie.InvT-loop
 Inv-loop s n ring a lens₀ cur₀ old₀ saved₀ len₀ next₀ when₀ reach₀ mult₀ us₀ ts₀ k₀ lens cur old saved len next when reach mult us ts k =
-    (k ≤ n) × State ring s k cur old len when reach mult × Spare next saved us ts × (length lens ≡ 129)
+    (k ≤ n) × State ring s k cur old len when reach mult × Spare next saved us ts × (length lens ≡ maxCells)
     × ((j : ℕ) → j ≤ k → at lens j ≡ L-at (ring .p) (ring .e) s zero j) × ((j : ℕ) → k < j → at lens j ≡ zero)
 
 abbrev μ-loop : tie.MeasureT-loop
@@ -38,11 +39,11 @@ loop-holds c =
     let r = a .ring in
     let st = z .pre .0 in (
       omega arith,
-      start-code r (a .s .now) st _ _ (replicate 15 (replicate 129 zero)) (replicate 15 zero) (replicate 15 zero) (replicate 15 zero) (replicate 15 zero) (c .before .start .ensures) zeros-shape (line-blank 15) line-long line-long line-long line-long,
+      start-code r (a .s .now) st _ _ (replicate maxRows (replicate maxCells zero)) (replicate maxRows zero) (replicate maxRows zero) (replicate maxRows zero) (replicate maxRows zero) (c .before .start .ensures) zeros-shape (line-blank maxRows) line-long line-long line-long line-long,
       record { long-next = line-long; shape-saved = zeros-shape; long-us = line-long; long-ts = line-long },
-      length-replicate 129 zero,
-      lens-first r (a .s .now) st (replicate 129 zero) (line-blank 129 zero),
-      λ j h. line-blank 129 j,
+      length-replicate maxCells zero,
+      lens-first r (a .s .now) st (replicate maxCells zero) (line-blank maxCells zero),
+      λ j h. line-blank maxCells j,
     )
 
 step-requires : tie.Need-step-requires Inv-loop μ-loop
@@ -65,7 +66,7 @@ cast-lens c =
     let st = z .pre .0 in
     let l = c .before .before .before .before .before .before .before .before .before .before .before .before .loop in
     let test : l .k < a .n = c .before .before .before .before .before .before .before .before .before .before .before .loop-test .taken in
-    let most : a .n ≤ 128 = z .pre .1 in
+    let most : a .n ≤ maxTerms = z .pre .1 in
     omega (arith, len-low r (a .s .now) st _ _ (c .step .ensures .0 .lens) zero (st .pos))
 
 mul-lens : tie.Need-mul-lens Inv-loop μ-loop
@@ -85,7 +86,7 @@ loop-again c =
     let st = z .pre .0 in
     let l = c .before .before .before .before .before .before .before .before .before .before .before .before .loop in
     let test : l .k < a .n = c .before .before .before .before .before .before .before .before .before .before .before .loop-test .taken in
-    let most : a .n ≤ 128 = z .pre .1 in
+    let most : a .n ≤ maxTerms = z .pre .1 in
     let v = c .step .ensures in (
       omega arith,
       state-at (sym (add-one (l .k))) (v .0),

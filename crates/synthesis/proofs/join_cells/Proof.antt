@@ -6,15 +6,16 @@ use native.Mathlib.Nat.{le-refl}
 use native.Mathlib.Omega.{arith}
 use Rattle.lists.specs.Table.{at}
 use Rattle.residue.specs.Units.{inverse}
+use Rattle.steps.specs.Sizes.{maxCells}
 use Rattle.synthesis.proofs.Joining.{Gluing, joint-joined, joint-same, glue-next, glue-skip}
 use Rattle.synthesis.proofs.join_cells.Statement.{statement}
 use Rattle.synthesis.proofs.join_cells.Tie as tie
 
 abbrev Inv-loop : tie.InvT-loop
-Inv-loop a₀ big row q unit i₀ a i = Gluing big q a₀ row a i × (i ≤ 129) × (unit ≡ inverse q big)
+Inv-loop a₀ big row q unit i₀ a i = Gluing big q a₀ row a i × (i ≤ maxCells) × (unit ≡ inverse q big)
 
 abbrev μ-loop : tie.MeasureT-loop
-μ-loop a₀ big row q unit i₀ a i = 129 - i
+μ-loop a₀ big row q unit i₀ a i = maxCells - i
 
 joiner-requires : tie.Need-joiner-requires Inv-loop μ-loop
 joiner-requires c κs = (c .pre .1, c .pre .2, c .pre .3, c .pre .4)

@@ -3,15 +3,16 @@
 use mathlib.Core.Path.{refl}
 use Prim.Native.Nat.{_≤_, _-_}
 use native.Mathlib.Omega.{arith}
+use Rattle.steps.specs.Sizes.{maxCells}
 use Rattle.synthesis.proofs.Joining.{Raising, raise-next, raise-skip}
 use Rattle.synthesis.proofs.raise.Statement.{statement}
 use Rattle.synthesis.proofs.raise.Tie as tie
 
 abbrev Inv-loop : tie.InvT-loop
-Inv-loop lengths₀ lens i₀ lengths i = Raising lengths₀ lens lengths i × (i ≤ 129)
+Inv-loop lengths₀ lens i₀ lengths i = Raising lengths₀ lens lengths i × (i ≤ maxCells)
 
 abbrev μ-loop : tie.MeasureT-loop
-μ-loop lengths₀ lens i₀ lengths i = 129 - i
+μ-loop lengths₀ lens i₀ lengths i = maxCells - i
 
 loop-holds : tie.Need-loop-holds Inv-loop μ-loop
 loop-holds c = (record { long = c .pre; done = λ j h. absurd (omega arith); todo = λ j h. refl }, omega arith)

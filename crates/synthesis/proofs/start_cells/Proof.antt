@@ -8,6 +8,7 @@ use lib.Seq.{getD-set-other}
 use Rattle.lists.specs.Table.{at}
 use Rattle.lists.proofs.Table.{each-next}
 use Rattle.recurrence.specs.Polynomial.{conv}
+use Rattle.steps.specs.Sizes.{maxTerms}
 use Rattle.steps.proofs.Passes.{line-blank}
 use Rattle.synthesis.specs.Joining.{Starts}
 use Rattle.synthesis.proofs.start_cells.Statement.{statement}
@@ -20,7 +21,7 @@ abbrev μ-loop : tie.MeasureT-loop
 μ-loop a terms l m b₀ i₀ b i = l - i
 
 loop-holds : tie.Need-loop-holds Inv-loop μ-loop
-loop-holds c = (record { long = length-replicate 128 zero; below = λ j h. absurd (omega arith); above = λ j h. line-blank 128 j }, omega arith)
+loop-holds c = (record { long = length-replicate maxTerms zero; below = λ j h. absurd (omega arith); above = λ j h. line-blank maxTerms j }, omega arith)
 
 coefficient-requires : tie.Need-coefficient-requires Inv-loop μ-loop
 coefficient-requires c κs =

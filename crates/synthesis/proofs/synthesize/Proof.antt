@@ -3,6 +3,7 @@
 use Prim.Native.Nat.{zero}
 use native.Mathlib.Omega.{arith}
 use lib.ListN.{length-replicate}
+use Rattle.steps.specs.Sizes.{maxCells}
 use Rattle.steps.proofs.Passes.{line-blank}
 use Rattle.synthesis.proofs.Gathering.{a-below, length-most, synthesis-is}
 use borrow.Author.Needs.{needs}
@@ -12,7 +13,7 @@ use Rattle.synthesis.proofs.synthesize.Tie as tie
 gather-requires : tie.Need-gather-requires
 gather-requires c κs =
     let z = c .before .before in
-    (z .pre .0, z .pre .1, z .pre .2, z .pre .3, length-replicate 129 zero, λ i h. omega (arith, line-blank 129 i), length-replicate 129 zero, λ i h. omega (arith, line-blank 129 i))
+    (z .pre .0, z .pre .1, z .pre .2, z .pre .3, length-replicate maxCells zero, λ i h. omega (arith, line-blank maxCells i), length-replicate maxCells zero, λ i h. omega (arith, line-blank maxCells i))
 
 mul-length : tie.Need-mul-length
 mul-length c = search needs
