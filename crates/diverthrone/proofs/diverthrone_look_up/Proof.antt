@@ -1,11 +1,11 @@
 -- `diverthrone_look_up` meets its contract: each reply goes to its number. A record that is found is in the catalogue, so its place fits.
 -- Assumes nothing.
 use mathlib.Core.Path.{sym, ap, _∙_}
-use Prim.Native.Nat.{_+_, _*_, _<_}
+use Prim.Native.Nat.{_*_, _<_}
 use native.Mathlib.Omega.{arith}
 use borrow.Author.Needs.{needs}
 use Rattle.catalogue.specs.declared.LookedUp.{LookedUp}
-use Rattle.catalogue.specs.Rules.{servedIn}
+use Rattle.catalogue.specs.Rules.{recordBytes, servedIn}
 use Rattle.catalogue.proofs.Laws.{found-below}
 use Rattle.diverthrone.specs.Codes.{lookedUpCode}
 use Rattle.diverthrone.proofs.diverthrone_look_up.Statement.{statement}
@@ -20,8 +20,8 @@ enum-told c = search needs
 enum-known-t : tie.Need-enum-known-t
 enum-known-t c = search needs
 
--- a catalogue of 2^64 bytes or more cannot be lent, and a record has 776
-place : (c : tie.After-t) → 256 * (c .t .given .0 .0 + 1) < 18446744073709551616
+-- the place of a record that is found: the records before it fit what 64 bits can count
+place : (c : tie.After-t) → recordBytes * c .t .given .0 .0 < 18446744073709551616
 place c =
     let m = c .before .before .before .before in
     let s = m .before .before .before .before .before in

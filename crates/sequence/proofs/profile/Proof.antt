@@ -9,7 +9,7 @@ use Rattle.synthesis.specs.declared.Synthesis.{Synthesis}
 use Rattle.synthesis.specs.Synthesis.{synthesisOf}
 use Rattle.sequence.specs.Report.{profileOf}
 use Rattle.sequence.proofs.Laws.{sound-of}
-use Rattle.sequence.proofs.Report.{long-lengths}
+use Rattle.sequence.proofs.Report.{long-a, long-lengths}
 use Rattle.sequence.proofs.profile.Statement.{statement}
 use Rattle.sequence.proofs.profile.Tie as tie
 
@@ -26,8 +26,9 @@ solve-requires c κs = sound-of _ (sym (c .before .is-sound .ensures) ∙ c .if2
 slice-aggregate-write : tie.Need-slice-aggregate-write
 slice-aggregate-write c = search needs
 
+-- a has as many cells: a profile that writes a instead is refused by what it promises, not here
 write-requires : tie.Need-write-requires
-write-requires c κs = omega (arith, long-lengths _ _ (c .before .before .before .solve .ensures))
+write-requires c κs = omega (arith, long-a _ _ (c .before .before .before .solve .ensures), long-lengths _ _ (c .before .before .before .solve .ensures))
 
 same-length : tie.Need-same-length
 same-length c = search needs
