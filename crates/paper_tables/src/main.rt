@@ -168,7 +168,8 @@ fn quintuples(k: usize, s: &[u32; TERMS], ring: Ring)
     }
 }
 
-fn tables(s: &[u32; TERMS], ring: Ring)
+// Table 1: the rows' pairs before each step, and after the last.
+fn table_1(s: &[u32; TERMS], ring: Ring)
     requires { ⌜ Setting ring (now s) ⌝ }
 {
     text(b"Table 1\nk eta a b\n");
@@ -177,8 +178,14 @@ fn tables(s: &[u32; TERMS], ring: Ring)
         pairs(k, s, ring);
         k += 1;
     }
+}
+
+// Table 2: the quintuples, at the same steps.
+fn table_2(s: &[u32; TERMS], ring: Ring)
+    requires { ⌜ Setting ring (now s) ⌝ }
+{
     text(b"Table 2\nk eta l u theta f case\n");
-    k = 0;
+    let mut k: usize = 0;
     while k <= COUNT {
         quintuples(k, s, ring);
         k += 1;
@@ -198,5 +205,6 @@ fn main() {
         q: 9,
         scale: residue::scale(9),
     };
-    tables(&s, ring);
+    table_1(&s, ring);
+    table_2(&s, ring);
 }

@@ -23,8 +23,11 @@ array-write-s-5 c = search needs
 scale-requires : tie.Need-scale-requires
 scale-requires c κs = search needs
 
-tables-requires : tie.Need-tables-requires
-tables-requires c κs = nine _ (c .before .scale .ensures)
+table-1-requires : tie.Need-table-1-requires
+table-1-requires c κs = nine _ (c .before .scale .ensures)
+
+table-2-requires : tie.Need-table-2-requires
+table-2-requires c κs = nine _ (c .before .before .before .scale .ensures)
 
 returns : tie.Need-returns
 returns c = search needs
@@ -39,5 +42,6 @@ main-spec =
     array-write-s-4
     array-write-s-5
     scale-requires
-    tables-requires
+    table-1-requires
+    table-2-requires
     returns)
