@@ -23,7 +23,7 @@ void tricks_register(uint32_t m, const uint32_t *s, int n, uint32_t *a, uint32_t
 }
 
 // A round times a batch of calls of each entry, all on the same sequences. Each round has other sequences and another order of the
-// entries: a batch that was just run teaches the processor its branches, and whoever always came next would look faster.
+// entries: in one fixed order, who came after whom moved the ratios between our own parts by 10 to 15%.
 static const int BATCH = 16, POOL = 1024;
 static uint32_t terms[POOL][128];
 static uint8_t queries[POOL][260];
