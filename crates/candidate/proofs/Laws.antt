@@ -24,8 +24,10 @@ use Rattle.recurrence.specs.Running.{cell, generated, firstDifference}
 use Rattle.recurrence.proofs.Series.{summand, conv-sum, conv-comm}
 use Rattle.recurrence.proofs.Running.{generated-length, generated-at, cell-same, cell-lt}
 use Rattle.sequence.specs.Limits.{maxCells, maxTerms}
+use Rattle.sequence.specs.Rules.{zeroFrom}
+use Rattle.sequence.proofs.Laws.{zero-from, zero-at}
 use Rattle.candidate.specs.declared.Flaw.the-variants as F
-use Rattle.candidate.specs.Rules.{allBelow, zeroPast, flawOf, isFine}
+use Rattle.candidate.specs.Rules.{allBelow, flawOf, isFine}
 
 -- A well-formed candidate of length l modulo m.
 pub record IsFine (m l : ℕ) (a b : List ℕ) : Type 0 where
@@ -36,13 +38,6 @@ pub record IsFine (m l : ℕ) (a b : List ℕ) : Type 0 where
   pub past-b : (i : ℕ) → l ≤ i → i < maxTerms → at b i ≡ zero
   pub lead : at a 0 ≡ 1
 
-zero-past : (k n : ℕ) (xs : List ℕ) → ((i : ℕ) → k ≤ i → i < n → at xs i ≡ zero) → zeroPast k n xs ≡ true
-zero-past k n xs h = all-true n _ (λ i l. go i l (lt-or-le i k))
-  where
-    go : (i : ℕ) → i < n → (i < k) ⊎ (k ≤ i) → pick (ltb i k) true (eqb (at xs i) zero) ≡ true
-    go i l (inl x) = rw (lt-ltb i k x)
-    go i l (inr x) = rw (le-ltb i k x) (eq-eqb (at xs i) zero (h i x l))
-
 pub of-fine : (m l : ℕ) (a b : List ℕ) → IsFine m l a b → flawOf m l a b ≡ F.Fine
 unfolding flawOf
 of-fine m l a b f =
@@ -50,8 +45,8 @@ of-fine m l a b f =
       le-ltb maxTerms l (f .short),
       all-true maxCells (λ i. ltb (at a i) m) (λ i h. lt-ltb (at a i) m (f .below-a i h)),
       all-true maxTerms (λ i. ltb (at b i) m) (λ i h. lt-ltb (at b i) m (f .below-b i h)),
-      zero-past (l + 1) maxCells a (λ i h k. f .past-a i (omega arith) k),
-      zero-past l maxTerms b (f .past-b),
+      zero-from (l + 1) maxCells a (λ i h k. f .past-a i (omega arith) k),
+      zero-from l maxTerms b (f .past-b),
       eq-eqb (at a 0) 1 (f .lead),
     )
 
@@ -59,13 +54,10 @@ of-fine m l a b f =
 pub fine-of : (m l : ℕ) (a b : List ℕ) → isFine (flawOf m l a b) ≡ true → IsFine m l a b
 unfolding flawOf
 fine-of m l a b h =
-    go (ltb maxTerms l) (allBelow m maxCells a) (allBelow m maxTerms b) (zeroPast (l + 1) maxCells a) (zeroPast l maxTerms b) (eqb (at a 0) 1) refl refl refl refl refl refl h
+    go (ltb maxTerms l) (allBelow m maxCells a) (allBelow m maxTerms b) (zeroFrom (l + 1) maxCells a) (zeroFrom l maxTerms b) (eqb (at a 0) 1) refl refl refl refl refl refl h
   where
-    past : (k n : ℕ) (xs : List ℕ) → zeroPast k n xs ≡ true → (i : ℕ) → k ≤ i → i < n → at xs i ≡ zero
-    past k n xs z i x y = eqb-true _ _ (rw (le-ltb i k x) at (all-at n _ z i y))
-
     go :
-        (s x y u v w : Bool) → ltb maxTerms l ≡ s → allBelow m maxCells a ≡ x → allBelow m maxTerms b ≡ y → zeroPast (l + 1) maxCells a ≡ u → zeroPast l maxTerms b ≡ v → eqb (at a 0) 1 ≡ w
+        (s x y u v w : Bool) → ltb maxTerms l ≡ s → allBelow m maxCells a ≡ x → allBelow m maxTerms b ≡ y → zeroFrom (l + 1) maxCells a ≡ u → zeroFrom l maxTerms b ≡ v → eqb (at a 0) 1 ≡ w
         → isFine (pick s F.TooLong (pick x (pick y (pick u (pick v (pick w F.Fine F.Lead) F.Coefficient) F.Coefficient) F.Coefficient) F.Coefficient)) ≡ true → IsFine m l a b
     go true x y u v w s' x' y' u' v' w' h = false-true h
     go false false y u v w s' x' y' u' v' w' h = false-true h
@@ -78,8 +70,8 @@ fine-of m l a b h =
           short = ltb-false _ _ s';
           below-a = λ i k. ltb-true _ _ (all-at maxCells _ x' i k);
           below-b = λ i k. ltb-true _ _ (all-at maxTerms _ y' i k);
-          past-a = λ i k n. past (l + 1) maxCells a u' i (omega arith) n;
-          past-b = past l maxTerms b v';
+          past-a = λ i k n. zero-at (l + 1) maxCells a u' i (omega arith) n;
+          past-b = zero-at l maxTerms b v';
           lead = eqb-true _ _ w';
         }
 

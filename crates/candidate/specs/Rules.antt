@@ -1,8 +1,8 @@
 -- Candidate registers (the paper's claims): when one is malformed, what testing one against a query replies, and what running one gives.
 -- Assumes nothing.
-use mathlib.Core.Bool.{Bool, true, false}
-use mathlib.Core.List.{List}
-use Prim.Native.Nat.{ℕ, zero, _+_, _/_, _%_}
+use mathlib.Core.Bool.{Bool, true, false, not}
+use mathlib.Core.List.{List, [], _∷_, _++_}
+use Prim.Native.Nat.{ℕ, _+_, _/_, _%_}
 use lib.Dec.{ltb, eqb}
 use lib.ListN.{length}
 use Rattle.lists.specs.Choice.{pick}
@@ -15,7 +15,8 @@ use Rattle.sequence.specs.declared.Refusal.the-variants as R
 use Rattle.sequence.specs.declared.Outcome.{Outcome}
 use Rattle.sequence.specs.declared.Outcome.the-variants.{Done, Refused}
 use Rattle.sequence.specs.Limits.{maxTerms, maxCells, aBytes, bBytes}
-use Rattle.sequence.specs.Rules.{outside, sequenceOf, checkOf}
+use Rattle.sequence.specs.Answers.{Answer, granted, refused, number, firstOf}
+use Rattle.sequence.specs.Rules.{outside, zeroFrom, sequenceOf, checkOf, queryRefusals}
 use Rattle.candidate.specs.declared.Verdict.{Verdict}
 use Rattle.candidate.specs.declared.Verdict.the-variants as W
 use Rattle.candidate.specs.declared.Flaw.{Flaw}
@@ -32,18 +33,14 @@ bCells b = cellsFrom b 0 maxTerms
 abbrev pub allBelow : ℕ → ℕ → List ℕ → Bool
 allBelow m n xs = all n (λ i. ltb (at xs i) m)
 
--- each of the first n numbers from place k on is 0
-abbrev pub zeroPast : ℕ → ℕ → List ℕ → Bool
-zeroPast k n xs = all n (λ i. pick (ltb i k) true (eqb (at xs i) zero))
-
 -- The first thing wrong with a candidate of length l modulo m: l above 128; a coefficient not below m, or nonzero past its end; a_0 not 1.
 unfoldable pub flawOf : ℕ → ℕ → List ℕ → List ℕ → Flaw
 flawOf m l a b =
     pick (ltb maxTerms l) F.TooLong
     (pick (allBelow m maxCells a)
     (pick (allBelow m maxTerms b)
-    (pick (zeroPast (l + 1) maxCells a)
-    (pick (zeroPast l maxTerms b)
+    (pick (zeroFrom (l + 1) maxCells a)
+    (pick (zeroFrom l maxTerms b)
     (pick (eqb (at a 0) 1) F.Fine F.Lead)
     F.Coefficient) F.Coefficient) F.Coefficient) F.Coefficient)
 
@@ -52,6 +49,12 @@ isFine F.Fine = true
 isFine F.TooLong = false
 isFine F.Coefficient = false
 isFine F.Lead = false
+
+-- yes has no value, no the place
+abbrev pub verdictAnswer : Verdict → Answer
+verdictAnswer W.Yes = granted []
+verdictAnswer (W.No i) = granted (i ∷ [])
+verdictAnswer (W.Refused r) = refused (number r)
 
 -- ---- testing
 
@@ -77,6 +80,16 @@ verifyOf query a b l =
     (pick (eqb (length b) bBytes) (orElse (checkOf query) (judgeOf (sequenceOf query) (aCells a) (bCells b) l)) (W.Refused R.Buffer))
     (W.Refused R.Buffer)
 
+unfoldable pub verifyAnswer : List ℕ → List ℕ → List ℕ → ℕ → Answer
+verifyAnswer query a b l =
+    let s = sequenceOf query in
+    firstOf
+    ((not (eqb (length a) aBytes), refused 5)
+    ∷ (not (eqb (length b) bBytes), refused 5)
+    ∷ (queryRefusals query
+    ++ ((not (isFine (flawOf (s .modulus) l (aCells a) (bCells b))), refused 6) ∷ [])))
+    (verdictAnswer (verdictOf (s .count) (firstDifference (s .modulus) (s .terms) (aCells a) (bCells b) (s .count))))
+
 -- ---- running
 
 -- 5 (a, b, an odd number of bytes), 1, 2, 6, in this order
@@ -91,6 +104,18 @@ generateOf m a b l cells =
     (Refused R.Buffer))
     (Refused R.Buffer))
     (Refused R.Buffer)
+
+unfoldable pub generateAnswer : ℕ → List ℕ → List ℕ → ℕ → List ℕ → Answer
+generateAnswer m a b l cells =
+    firstOf
+    ((not (eqb (length a) aBytes), refused 5)
+    ∷ (not (eqb (length b) bBytes), refused 5)
+    ∷ (not (eqb (length cells % 2) 0), refused 5)
+    ∷ (outside m, refused 1)
+    ∷ (ltb maxTerms (length cells / 2), refused 2)
+    ∷ (not (isFine (flawOf m l (aCells a) (bCells b))), refused 6)
+    ∷ [])
+    (granted [])
 
 -- the cells at exit: run whole, or as lent
 abbrev pub generatedIn : Outcome → ℕ → List ℕ → List ℕ → ℕ → List ℕ → List ℕ

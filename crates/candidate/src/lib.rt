@@ -11,8 +11,9 @@ ghost use Rattle.lists.specs.Table.{at};
 ghost use Rattle.cells.specs.Cell.{cellsFrom, bytesOf};
 ghost use Rattle.recurrence.specs.Running.{cell, generated, firstDifference};
 ghost use Rattle.sequence.specs.Limits.{maxTerms, aBytes, bBytes};
-ghost use Rattle.sequence.specs.Rules.{IsSound};
-ghost use Rattle.candidate.specs.Rules.{aCells, bCells, allBelow, zeroPast, flawOf, isFine, judgeOf, verifyOf, generateOf, generatedIn};
+ghost use Rattle.sequence.specs.Answers.{outcomeAnswer};
+ghost use Rattle.sequence.specs.Rules.{IsSound, zeroFrom};
+ghost use Rattle.candidate.specs.Rules.{aCells, bCells, allBelow, flawOf, isFine, judgeOf, verdictAnswer, verifyOf, verifyAnswer, generateOf, generateAnswer, generatedIn};
 
 pub enum Verdict {
     Yes,
@@ -44,9 +45,9 @@ fn all_below(s: &[u8], n: usize, m: u32) -> bool
 }
 
 // Whether each of the first n cells from place k on is zero.
-fn zero_past(s: &[u8], k: usize, n: usize) -> bool
+fn zero_from(s: &[u8], k: usize, n: usize) -> bool
     requires { ⌜ 2 * n ≤ length (now s) ⌝ }
-    ensures { λ r. ⌜ r ≡ zeroPast k n (cellsFrom (now (s .entry)) 0 n) ⌝ }
+    ensures { λ r. ⌜ r ≡ zeroFrom k n (cellsFrom (now (s .entry)) 0 n) ⌝ }
 {
     let mut i = k;
     while i < n {
@@ -59,7 +60,7 @@ fn zero_past(s: &[u8], k: usize, n: usize) -> bool
 }
 
 // The first thing wrong with a candidate of length l modulo m.
-pub fn find_flaw(m: u32, l: u32, a: &[u8], b: &[u8]) -> Flaw
+fn find_flaw(m: u32, l: u32, a: &[u8], b: &[u8]) -> Flaw
     requires { ⌜ (length (now a) ≡ aBytes) × (length (now b) ≡ bBytes) ⌝ }
     ensures { λ r. ⌜ r ≡ flawOf m l (aCells (now (a .entry))) (bCells (now (b .entry))) ⌝ }
 {
@@ -69,8 +70,8 @@ pub fn find_flaw(m: u32, l: u32, a: &[u8], b: &[u8]) -> Flaw
     let k = l as usize;
     if all_below(a, CELLS, m) {
         if all_below(b, TERMS, m) {
-            if zero_past(a, k + 1, CELLS) {
-                if zero_past(b, k, TERMS) {
+            if zero_from(a, k + 1, CELLS) {
+                if zero_from(b, k, TERMS) {
                     if cells::cell(a, 0) == 1 {
                         return Flaw::Fine;
                     }
@@ -83,7 +84,7 @@ pub fn find_flaw(m: u32, l: u32, a: &[u8], b: &[u8]) -> Flaw
 }
 
 // Whether a candidate is well formed.
-pub fn is_fine(m: u32, l: u32, a: &[u8], b: &[u8]) -> bool
+fn is_fine(m: u32, l: u32, a: &[u8], b: &[u8]) -> bool
     requires { ⌜ (length (now a) ≡ aBytes) × (length (now b) ≡ bBytes) ⌝ }
     ensures { λ r. ⌜ r ≡ isFine (flawOf m l (aCells (now (a .entry))) (bCells (now (b .entry)))) ⌝ }
 {
@@ -131,7 +132,7 @@ fn first_difference(terms: &[u32; TERMS], a: &[u8], b: &[u8], n: usize, m: u32) 
 }
 
 // The test of a candidate against a sound sequence.
-fn judge(s: Sequence, a: &[u8], b: &[u8], l: u32) -> Verdict
+pub fn judge(s: Sequence, a: &[u8], b: &[u8], l: u32) -> Verdict
     requires { ⌜ IsSound s × (length (now a) ≡ aBytes) × (length (now b) ≡ bBytes) ⌝ }
     ensures { λ r. ⌜ r ≡ judgeOf s (aCells (now (a .entry))) (bCells (now (b .entry))) l ⌝ }
 {
@@ -152,6 +153,7 @@ fn judge(s: Sequence, a: &[u8], b: &[u8], l: u32) -> Verdict
 // Rejected: a test that stops at n - 1 places; one that says yes to a candidate whose a_0 is not 1.
 pub fn verify(query: &[u8], a: &[u8], b: &[u8], length: u32) -> Verdict
     ensures { λ r. ⌜ r ≡ verifyOf (now (query .entry)) (now (a .entry)) (now (b .entry)) length ⌝ }
+    ensures { λ r. ⌜ verdictAnswer r ≡ verifyAnswer (now (query .entry)) (now (a .entry)) (now (b .entry)) length ⌝ }
 {
     if a.len() != sequence::A_BYTES {
         return Verdict::Refused(Refusal::Buffer);
@@ -160,10 +162,11 @@ pub fn verify(query: &[u8], a: &[u8], b: &[u8], length: u32) -> Verdict
         return Verdict::Refused(Refusal::Buffer);
     }
     let c = sequence::check(query);
-    match c {
+    let o = c.outcome;
+    match o {
         Outcome::Refused(r) => Verdict::Refused(r),
         Outcome::Done => {
-            let s = sequence::load(query);
+            let s = c.sequence;
             judge(s, a, b, length)
         }
     }
@@ -209,6 +212,7 @@ fn fill(m: u32, a: &[u8], b: &[u8], l: usize, out: &mut [u8], n: usize)
 pub fn generate(modulus: u32, a: &[u8], b: &[u8], length: u32, out: &mut [u8]) -> Outcome
     ensures { λ r. ⌜ r ≡ generateOf modulus (now (a .entry)) (now (b .entry)) length (now (out .entry)) ⌝ }
     ensures { λ r. ⌜ now (out .exit) ≡ generatedIn r modulus (now (a .entry)) (now (b .entry)) length (now (out .entry)) ⌝ }
+    ensures { λ r. ⌜ outcomeAnswer r ≡ generateAnswer modulus (now (a .entry)) (now (b .entry)) length (now (out .entry)) ⌝ }
 {
     if a.len() != sequence::A_BYTES {
         return Outcome::Refused(Refusal::Buffer);
@@ -220,10 +224,7 @@ pub fn generate(modulus: u32, a: &[u8], b: &[u8], length: u32, out: &mut [u8]) -
     if odd != 0 {
         return Outcome::Refused(Refusal::Buffer);
     }
-    if modulus < 2 {
-        return Outcome::Refused(Refusal::Modulus);
-    }
-    if sequence::MAX_MODULUS < modulus {
+    if sequence::outside(modulus) {
         return Outcome::Refused(Refusal::Modulus);
     }
     let n = out.len() / 2;

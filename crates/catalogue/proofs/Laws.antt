@@ -27,9 +27,10 @@ use Rattle.sequence.specs.Limits.{queryBytes, registerBytes}
 use Rattle.sequence.specs.Rules.{sequenceOf, checkOf}
 use Rattle.catalogue.specs.declared.Match.{Match}
 use Rattle.catalogue.specs.declared.Match.the-variants as M
+use Rattle.catalogue.specs.declared.LookedUp.{LookedUp}
 use Rattle.catalogue.specs.declared.LookedUp.the-variants as S
 use Rattle.catalogue.specs.Word.{wordOf}
-use Rattle.catalogue.specs.Rules.{recordBytes, aPlace, layout, recordOf, recordAt, queryAt, records, firstMatch, matchOf, passes, serveOf, answerOf, orElse, lookUpOf}
+use Rattle.catalogue.specs.Rules.{recordBytes, aPlace, layout, recordOf, recordAt, queryAt, records, firstMatch, matchOf, passes, serveOf, answerOf, orElse, lookUpOf, servedIn}
 
 -- ---- filling a record
 
@@ -63,16 +64,15 @@ one-cell (x ∷ y ∷ z ∷ xs) v e = absurd (omega arith)
 pub is-record :
     (out query q l ab : List ℕ) (s : Sequence) (x : Synthesis) → length out ≡ recordBytes → length query ≡ queryBytes → q ≡ query →
     l ≡ putCell (take 2 (drop queryBytes (q ++ postOf 0 queryBytes out))) 0 (x .length) → ab ≡ bytesOf (x .a) ++ bytesOf (x .b) →
-    s ≡ sequenceOf query → x ≡ synthesisOf (s .modulus) (s .terms) (s .count) →
-    putMid aPlace registerBytes (putMid queryBytes 2 (q ++ postOf 0 queryBytes out) l) ab ≡ recordOf query
-unfolding recordOf layout synthesisOf
-is-record out query q l ab s x ho hq eq el eab es ex =
+    x ≡ synthesisOf (s .modulus) (s .terms) (s .count) →
+    putMid aPlace registerBytes (putMid queryBytes 2 (q ++ postOf 0 queryBytes out) l) ab ≡ layout query s
+unfolding layout synthesisOf
+is-record out query q l ab s x ho hq eq el eab ex =
     three out q l ab ho size-q (ap length line ∙ two-bytes (x .length))
     ∙ ap (λ (z : List ℕ). z ++ (l ++ ab)) eq
     ∙ ap (λ (z : List ℕ). query ++ (z ++ ab)) line
     ∙ ap (λ (z : List ℕ). query ++ (bytesOf (x .length ∷ []) ++ z)) eab
     ∙ ap (λ (z : Synthesis). query ++ (bytesOf (z .length ∷ []) ++ (bytesOf (z .a) ++ bytesOf (z .b)))) ex
-    ∙ ap (layout query) es
   where
     size-q : length q ≡ queryBytes
     size-q = ap length eq ∙ hq
@@ -87,6 +87,11 @@ is-record out query q l ab s x ho hq eq el eab es ex =
 
     line : l ≡ bytesOf (x .length ∷ [])
     line = el ∙ one-cell (take 2 (drop queryBytes (q ++ postOf 0 queryBytes out))) (x .length) two
+
+-- of the query's own sequence
+pub is-made : (query : List ℕ) (s : Sequence) → s ≡ sequenceOf query → layout query s ≡ recordOf query
+unfolding recordOf
+is-made query s e = ap (layout query) e
 
 -- ---- searching a catalogue
 
@@ -151,6 +156,16 @@ match-below n k i h = go (ltb k n) refl h
     go true e q = let z : k ≡ i = cc in subst (λ (y : ℕ). y < n) z (ltb-true k n e)
     go false e q = let z : _≡_ {A = ℕ} 0 1 = cc in absurd (omega arith)
 
+-- what serving record i leaves in the lent buffer
+pub is-served :
+    (s : Sequence) (query catalogue out : List ℕ) (i : ℕ) {r : LookedUp} {x : List ℕ} → r ≡ serveOf s catalogue (M.At i) →
+    x ≡ pick (passes s (recordAt catalogue i)) (recordAt catalogue i) out → x ≡ servedIn r query catalogue out
+is-served s query catalogue out i e f = f ∙ go (passes s (recordAt catalogue i)) ∙ ap (λ (t : LookedUp). servedIn t query catalogue out) (sym e)
+  where
+    go : (g : Bool) → pick g (recordAt catalogue i) out ≡ servedIn (pick g (S.Found i) (S.Refused R.Record)) query catalogue out
+    go true = refl
+    go false = refl
+
 -- a record that is said to be found is in the catalogue
 pub found-below : (query catalogue out : List ℕ) (i : ℕ) → lookUpOf query catalogue out ≡ S.Found i → i < records catalogue
 unfolding lookUpOf answerOf
@@ -166,9 +181,9 @@ found-below query catalogue out i h =
 
     go :
         (b : Bool) (o : Outcome) (d : Bool) (f : Match) → matchOf (records catalogue) k ≡ f →
-        pick b (orElse o (pick d (serveOf query catalogue f) (S.Refused R.Catalogue))) (S.Refused R.Buffer) ≡ S.Found i → i < records catalogue
+        pick b (orElse o (pick d (serveOf (sequenceOf query) catalogue f) (S.Refused R.Catalogue))) (S.Refused R.Buffer) ≡ S.Found i → i < records catalogue
     go false o d f e q = let z : _≡_ {A = ℕ} 0 1 = cc in absurd (omega arith)
     go true (O.Refused r) d f e q = let z : _≡_ {A = ℕ} 0 1 = cc in absurd (omega arith)
     go true O.Done false f e q = let z : _≡_ {A = ℕ} 0 1 = cc in absurd (omega arith)
     go true O.Done true M.Nowhere e q = let z : _≡_ {A = ℕ} 0 1 = cc in absurd (omega arith)
-    go true O.Done true (M.At j) e q = served j (passes query (recordAt catalogue j)) e q
+    go true O.Done true (M.At j) e q = served j (passes (sequenceOf query) (recordAt catalogue j)) e q

@@ -1,11 +1,11 @@
 -- Records and catalogues (the paper's shelf): the record made of a query, and what looking one up replies.
 -- Assumes nothing.
-use mathlib.Core.Bool.{Bool, true, false}
+use mathlib.Core.Bool.{Bool, true, false, not}
 use mathlib.Core.List.{List, [], _∷_, _++_}
 use Prim.Native.Nat.{ℕ, _*_, _/_, _%_}
 use lib.Dec.{ltb, eqb}
 use lib.ListN.{length, take, drop}
-use Rattle.lists.specs.Choice.{pick}
+use Rattle.lists.specs.Choice.{pick, both}
 use Rattle.lists.specs.Search.{first}
 use Rattle.cells.specs.Cell.{cellAt, bytesOf, equal}
 use Rattle.sequence.specs.declared.Sequence.{Sequence}
@@ -13,11 +13,12 @@ use Rattle.sequence.specs.declared.Refusal.the-variants as R
 use Rattle.sequence.specs.declared.Outcome.{Outcome}
 use Rattle.sequence.specs.declared.Outcome.the-variants as O
 use Rattle.sequence.specs.Limits.{queryBytes, aBytes, bBytes}
-use Rattle.sequence.specs.Rules.{sequenceOf, checkOf}
+use Rattle.sequence.specs.Answers.{Answer, granted, refused, number, firstOf}
+use Rattle.sequence.specs.Rules.{sequenceOf, checkOf, queryRefusals}
 use Rattle.sequence.specs.Report.{registerOf, aBuffer, bBuffer}
 use Rattle.candidate.specs.declared.Verdict.{Verdict}
 use Rattle.candidate.specs.declared.Verdict.the-variants as W
-use Rattle.candidate.specs.Rules.{verifyOf}
+use Rattle.candidate.specs.Rules.{aCells, bCells, judgeOf}
 use Rattle.catalogue.specs.declared.LookedUp.{LookedUp}
 use Rattle.catalogue.specs.declared.LookedUp.the-variants as S
 use Rattle.catalogue.specs.declared.Match.{Match}
@@ -48,7 +49,16 @@ recordOf query = layout query (sequenceOf query)
 unfoldable pub synthesizeOf : List ℕ → List ℕ → Outcome
 synthesizeOf query out = pick (eqb (length out) recordBytes) (checkOf query) (O.Refused R.Buffer)
 
+unfoldable pub synthesizeAnswer : List ℕ → List ℕ → Answer
+synthesizeAnswer query out = firstOf ((not (eqb (length out) recordBytes), refused 5) ∷ queryRefusals query) (granted [])
+
 -- ---- looking up
+
+-- a record found has its place as value, one made has none
+abbrev pub lookedUpAnswer : LookedUp → Answer
+lookedUpAnswer S.Made = granted []
+lookedUpAnswer (S.Found i) = granted (i ∷ [])
+lookedUpAnswer (S.Refused r) = refused (number r)
 
 -- record i of a catalogue, and the query in it
 abbrev pub recordAt : List ℕ → ℕ → List ℕ
@@ -72,20 +82,20 @@ isYes W.Yes = true
 isYes (W.No i) = false
 isYes (W.Refused r) = false
 
--- the register in a record is a well-formed candidate that passes the test against the query
-unfoldable pub passes : List ℕ → List ℕ → Bool
-passes query entry = isYes (verifyOf query (take aBytes (drop aPlace entry)) (take bBytes (drop bPlace entry)) (cellAt entry lengthCell))
+-- the register in a record is a well-formed candidate that passes the test against the query's sequence
+unfoldable pub passes : Sequence → List ℕ → Bool
+passes s entry = isYes (judgeOf s (aCells (take aBytes (drop aPlace entry))) (bCells (take bBytes (drop bPlace entry))) (cellAt entry lengthCell))
 
 -- the first match alone decides: 24, or it is served
-abbrev pub serveOf : List ℕ → List ℕ → Match → LookedUp
-serveOf query catalogue (M.At i) = pick (passes query (recordAt catalogue i)) (S.Found i) (S.Refused R.Record)
-serveOf query catalogue M.Nowhere = S.Made
+abbrev pub serveOf : Sequence → List ℕ → Match → LookedUp
+serveOf s catalogue (M.At i) = pick (passes s (recordAt catalogue i)) (S.Found i) (S.Refused R.Record)
+serveOf s catalogue M.Nowhere = S.Made
 
 -- the answer to a query that passed its checks: 23, 24, or found, or made
 unfoldable pub answerOf : List ℕ → List ℕ → LookedUp
 answerOf query catalogue =
     pick (eqb (length catalogue % recordBytes) 0)
-    (serveOf query catalogue (matchOf (records catalogue) (firstMatch query catalogue (records catalogue))))
+    (serveOf (sequenceOf query) catalogue (matchOf (records catalogue) (firstMatch query catalogue (records catalogue))))
     (S.Refused R.Catalogue)
 
 abbrev pub orElse : Outcome → LookedUp → LookedUp
@@ -95,6 +105,18 @@ orElse (O.Refused r) t = S.Refused r
 -- 5 (query, record), 1, 2, 3, 4, 23, 24, in this order
 unfoldable pub lookUpOf : List ℕ → List ℕ → List ℕ → LookedUp
 lookUpOf query catalogue out = pick (eqb (length out) recordBytes) (orElse (checkOf query) (answerOf query catalogue)) (S.Refused R.Buffer)
+
+unfoldable pub lookUpAnswer : List ℕ → List ℕ → List ℕ → Answer
+lookUpAnswer query catalogue out =
+    let n = records catalogue in
+    let i = firstMatch query catalogue n in
+    firstOf
+    ((not (eqb (length out) recordBytes), refused 5)
+    ∷ (queryRefusals query
+    ++ ((not (eqb (length catalogue % recordBytes) 0), refused 23)
+    ∷ (both (ltb i n) (not (passes (sequenceOf query) (recordAt catalogue i))), refused 24)
+    ∷ [])))
+    (pick (ltb i n) (granted (i ∷ [])) (granted []))
 
 -- the record at exit: the one found, the one made, or as lent
 abbrev pub servedIn : LookedUp → List ℕ → List ℕ → List ℕ → List ℕ

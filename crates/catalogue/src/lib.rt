@@ -1,30 +1,34 @@
 // Records and catalogues (the paper's shelf): making the record of a query, and looking one up.
 use candidate::Verdict;
+use sequence::A_BYTES;
+use sequence::B_BYTES;
 use sequence::Outcome;
+use sequence::QUERY_BYTES;
 use sequence::Refusal;
+use sequence::Sequence;
 ghost use mathlib.Core.Path.{_≡_};
 ghost use Prim.Native.Nat.{_+_, _*_, _/_, _≤_, _<_};
 ghost use lib.ListN.{length, take};
 ghost use Rattle.cells.specs.Cell.{equal};
 ghost use Rattle.sequence.specs.Limits.{queryBytes};
-ghost use Rattle.sequence.specs.Rules.{checkOf};
+ghost use Rattle.lists.specs.Choice.{pick};
+ghost use Rattle.sequence.specs.Answers.{outcomeAnswer};
+ghost use Rattle.sequence.specs.Rules.{IsSound, sequenceOf};
 ghost use Rattle.sequence.specs.Report.{filled};
 ghost use Rattle.catalogue.specs.Word.{wordOf};
-ghost use Rattle.catalogue.specs.Rules.{recordBytes, recordOf, synthesizeOf, records, firstMatch, matchOf, passes, serveOf, answerOf, lookUpOf, servedIn};
+ghost use Rattle.catalogue.specs.Rules.{recordBytes, layout, recordOf, synthesizeOf, synthesizeAnswer, records, recordAt, firstMatch, matchOf, passes, serveOf, answerOf, lookedUpAnswer, lookUpOf, lookUpAnswer, servedIn};
 
-// A record: the query, the length, a and b begin at these bytes.
-const LENGTH_PLACE: usize = 260;
+// A record is the query, the length, a and b. a and b begin at these bytes.
+const A_PLACE: usize = QUERY_BYTES + 2;
 
-const A_PLACE: usize = 262;
+const B_PLACE: usize = A_PLACE + A_BYTES;
 
-const B_PLACE: usize = 520;
-
-pub const RECORD_BYTES: usize = 776;
+pub const RECORD_BYTES: usize = B_PLACE + B_BYTES;
 
 // The length and a begin at these cells.
-pub const LENGTH_CELL: usize = 130;
+pub const LENGTH_CELL: usize = QUERY_BYTES / 2;
 
-pub const A_CELL: usize = 131;
+pub const A_CELL: usize = A_PLACE / 2;
 
 pub enum LookedUp {
     Found(usize),
@@ -37,16 +41,14 @@ pub enum Match {
     Nowhere,
 }
 
-// The record of a query that passed its checks. The part from byte 262 on is lent to the code that writes a register.
-fn write_record(query: &[u8], out: &mut [u8])
-    requires { ⌜ checkOf (now query) ≡ Outcome.Done ⌝ }
-    requires { ⌜ length (now out) ≡ recordBytes ⌝ }
-    ensures { λ _. ⌜ now (out .exit) ≡ recordOf (now (query .entry)) ⌝ }
+// The record of a query with the sound sequence s. The part from byte 262 on is lent to the code that writes a register.
+fn write_record(query: &[u8], s: Sequence, out: &mut [u8])
+    requires { ⌜ (length (now query) ≡ queryBytes) × IsSound s × (length (now out) ≡ recordBytes) ⌝ }
+    ensures { λ _. ⌜ now (out .exit) ≡ layout (now (query .entry)) s ⌝ }
 {
-    let s = sequence::load(query);
     let x = sequence::solve(s);
-    cells::copy(query, &mut out[0..LENGTH_PLACE]);
-    cells::put(&mut out[LENGTH_PLACE..A_PLACE], 0, x.length);
+    cells::copy(query, &mut out[0..QUERY_BYTES]);
+    cells::put(&mut out[QUERY_BYTES..A_PLACE], 0, x.length);
     sequence::write_register(x, &mut out[A_PLACE..RECORD_BYTES]);
 }
 
@@ -55,15 +57,18 @@ fn write_record(query: &[u8], out: &mut [u8])
 pub fn synthesize(query: &[u8], out: &mut [u8]) -> Outcome
     ensures { λ r. ⌜ r ≡ synthesizeOf (now (query .entry)) (now (out .entry)) ⌝ }
     ensures { λ r. ⌜ now (out .exit) ≡ filled r (recordOf (now (query .entry))) (now (out .entry)) ⌝ }
+    ensures { λ r. ⌜ outcomeAnswer r ≡ synthesizeAnswer (now (query .entry)) (now (out .entry)) ⌝ }
 {
     if out.len() != RECORD_BYTES {
         return Outcome::Refused(Refusal::Buffer);
     }
     let c = sequence::check(query);
-    match c {
+    let o = c.outcome;
+    match o {
         Outcome::Refused(r) => Outcome::Refused(r),
         Outcome::Done => {
-            write_record(query, out);
+            let s = c.sequence;
+            write_record(query, s, out);
             Outcome::Done
         }
     }
@@ -94,7 +99,7 @@ fn is_of(query: &[u8], entry: &[u8]) -> bool
     if word(query) != word(entry) {
         return false;
     }
-    cells::same(&query[0..LENGTH_PLACE], &entry[0..LENGTH_PLACE])
+    cells::same(&query[0..QUERY_BYTES], &entry[0..QUERY_BYTES])
 }
 
 // The first record whose first 260 bytes are the query's.
@@ -114,14 +119,14 @@ fn find(query: &[u8], catalogue: &[u8]) -> Match
     Match::Nowhere
 }
 
-// Whether the register in a record passes the test against the query.
-fn is_good(query: &[u8], entry: &[u8]) -> bool
-    requires { ⌜ length (now entry) ≡ recordBytes ⌝ }
-    ensures { λ r. ⌜ r ≡ passes (now (query .entry)) (now (entry .entry)) ⌝ }
+// Whether the register in a record passes the test against the query's sequence.
+fn is_good(s: Sequence, entry: &[u8]) -> bool
+    requires { ⌜ IsSound s × (length (now entry) ≡ recordBytes) ⌝ }
+    ensures { λ r. ⌜ r ≡ passes s (now (entry .entry)) ⌝ }
 {
     let l = cells::cell(entry, LENGTH_CELL);
-    let v = candidate::verify(
-        query,
+    let v = candidate::judge(
+        s,
         &entry[A_PLACE..B_PLACE],
         &entry[B_PLACE..RECORD_BYTES],
         l,
@@ -134,24 +139,23 @@ fn is_good(query: &[u8], entry: &[u8]) -> bool
 }
 
 // Serves record i.
-fn serve(query: &[u8], catalogue: &[u8], out: &mut [u8], i: usize) -> LookedUp
-    requires { ⌜ (i < length (now catalogue) / recordBytes) × (length (now out) ≡ recordBytes) ⌝ }
-    ensures { λ r. ⌜ r ≡ serveOf (now (query .entry)) (now (catalogue .entry)) (Match.At i) ⌝ }
-    ensures { λ r. ⌜ now (out .exit) ≡ servedIn r (now (query .entry)) (now (catalogue .entry)) (now (out .entry)) ⌝ }
+fn serve(s: Sequence, catalogue: &[u8], out: &mut [u8], i: usize) -> LookedUp
+    requires { ⌜ IsSound s × (i < length (now catalogue) / recordBytes) × (length (now out) ≡ recordBytes) ⌝ }
+    ensures { λ r. ⌜ r ≡ serveOf s (now (catalogue .entry)) (Match.At i) ⌝ }
+    ensures { λ _. ⌜ now (out .exit) ≡ pick (passes s (recordAt (now (catalogue .entry)) i)) (recordAt (now (catalogue .entry)) i) (now (out .entry)) ⌝ }
 {
     let at = i * RECORD_BYTES;
     let entry = &catalogue[at..at + RECORD_BYTES];
-    if is_good(query, entry) {
+    if is_good(s, entry) {
         cells::copy(entry, out);
         return LookedUp::Found(i);
     }
     LookedUp::Refused(Refusal::Record)
 }
 
-// Answers a query that passed its checks.
-fn answer(query: &[u8], catalogue: &[u8], out: &mut [u8]) -> LookedUp
-    requires { ⌜ checkOf (now query) ≡ Outcome.Done ⌝ }
-    requires { ⌜ length (now out) ≡ recordBytes ⌝ }
+// Answers a query that passed its checks; s is its sequence.
+fn answer(query: &[u8], s: Sequence, catalogue: &[u8], out: &mut [u8]) -> LookedUp
+    requires { ⌜ (length (now query) ≡ queryBytes) × (s ≡ sequenceOf (now query)) × IsSound s × (length (now out) ≡ recordBytes) ⌝ }
     ensures { λ r. ⌜ r ≡ answerOf (now (query .entry)) (now (catalogue .entry)) ⌝ }
     ensures { λ r. ⌜ now (out .exit) ≡ servedIn r (now (query .entry)) (now (catalogue .entry)) (now (out .entry)) ⌝ }
 {
@@ -161,9 +165,9 @@ fn answer(query: &[u8], catalogue: &[u8], out: &mut [u8]) -> LookedUp
     }
     let f = find(query, catalogue);
     match f {
-        Match::At(i) => serve(query, catalogue, out, i),
+        Match::At(i) => serve(s, catalogue, out, i),
         Match::Nowhere => {
-            write_record(query, out);
+            write_record(query, s, out);
             LookedUp::Made
         }
     }
@@ -174,13 +178,18 @@ fn answer(query: &[u8], catalogue: &[u8], out: &mut [u8]) -> LookedUp
 pub fn look_up(query: &[u8], catalogue: &[u8], out: &mut [u8]) -> LookedUp
     ensures { λ r. ⌜ r ≡ lookUpOf (now (query .entry)) (now (catalogue .entry)) (now (out .entry)) ⌝ }
     ensures { λ r. ⌜ now (out .exit) ≡ servedIn r (now (query .entry)) (now (catalogue .entry)) (now (out .entry)) ⌝ }
+    ensures { λ r. ⌜ lookedUpAnswer r ≡ lookUpAnswer (now (query .entry)) (now (catalogue .entry)) (now (out .entry)) ⌝ }
 {
     if out.len() != RECORD_BYTES {
         return LookedUp::Refused(Refusal::Buffer);
     }
     let c = sequence::check(query);
-    match c {
+    let o = c.outcome;
+    match o {
         Outcome::Refused(r) => LookedUp::Refused(r),
-        Outcome::Done => answer(query, catalogue, out),
+        Outcome::Done => {
+            let s = c.sequence;
+            answer(query, s, catalogue, out)
+        }
     }
 }

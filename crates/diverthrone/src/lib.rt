@@ -5,15 +5,15 @@ use sequence::Outcome;
 ghost use mathlib.Core.Path.{_≡_};
 ghost use Prim.Native.Nat.{_≤_, _<_};
 ghost use Rattle.sequence.specs.Report.{filled};
-ghost use Rattle.candidate.specs.Rules.{verifyOf, generateOf, generatedIn};
-ghost use Rattle.catalogue.specs.Rules.{recordOf, synthesizeOf, lookUpOf, servedIn};
-ghost use Rattle.diverthrone.specs.Codes.{outcomeCode, verdictCode, lookedUpCode};
+ghost use Rattle.candidate.specs.Rules.{verifyAnswer, generateOf, generateAnswer, generatedIn};
+ghost use Rattle.catalogue.specs.Rules.{recordOf, synthesizeOf, synthesizeAnswer, lookUpOf, lookUpAnswer, servedIn};
+ghost use Rattle.diverthrone.specs.Codes.{codeOf};
 
 // Makes the record of a query.
 // Rejected: one that refuses every query; one that writes the query's bytes before it refuses.
 #[no_mangle]
 pub extern "C" fn diverthrone_synthesize(query: &[u8], out: &mut [u8]) -> u64
-    ensures { λ r. ⌜ r ≡ outcomeCode (synthesizeOf (now (query .entry)) (now (out .entry))) ⌝ }
+    ensures { λ r. ⌜ r ≡ codeOf (synthesizeAnswer (now (query .entry)) (now (out .entry))) ⌝ }
     ensures { λ r. ⌜ now (out .exit) ≡ filled (synthesizeOf (now (query .entry)) (now (out .entry))) (recordOf (now (query .entry))) (now (out .entry)) ⌝ }
 {
     let o = catalogue::synthesize(query, out);
@@ -27,7 +27,7 @@ pub extern "C" fn diverthrone_synthesize(query: &[u8], out: &mut [u8]) -> u64
 // Rejected: one that says made before it looks; one that serves a record whose place it does not tell.
 #[no_mangle]
 pub extern "C" fn diverthrone_look_up(query: &[u8], catalogue: &[u8], out: &mut [u8]) -> u64
-    ensures { λ r. ⌜ r ≡ lookedUpCode (lookUpOf (now (query .entry)) (now (catalogue .entry)) (now (out .entry))) ⌝ }
+    ensures { λ r. ⌜ r ≡ codeOf (lookUpAnswer (now (query .entry)) (now (catalogue .entry)) (now (out .entry))) ⌝ }
     ensures { λ r. ⌜ now (out .exit) ≡ servedIn (lookUpOf (now (query .entry)) (now (catalogue .entry)) (now (out .entry))) (now (query .entry)) (now (catalogue .entry)) (now (out .entry)) ⌝ }
 {
     let t = catalogue::look_up(query, catalogue, out);
@@ -42,7 +42,7 @@ pub extern "C" fn diverthrone_look_up(query: &[u8], catalogue: &[u8], out: &mut 
 // Rejected: one that says no without the place; one that answers a malformed candidate with no.
 #[no_mangle]
 pub extern "C" fn diverthrone_verify(query: &[u8], a: &[u8], b: &[u8], length: u32) -> u64
-    ensures { λ r. ⌜ r ≡ verdictCode (verifyOf (now (query .entry)) (now (a .entry)) (now (b .entry)) length) ⌝ }
+    ensures { λ r. ⌜ r ≡ codeOf (verifyAnswer (now (query .entry)) (now (a .entry)) (now (b .entry)) length) ⌝ }
 {
     let v = candidate::verify(query, a, b, length);
     match v {
@@ -62,7 +62,7 @@ pub extern "C" fn diverthrone_generate(
     length: u32,
     out: &mut [u8],
 ) -> u64
-    ensures { λ r. ⌜ r ≡ outcomeCode (generateOf modulus (now (a .entry)) (now (b .entry)) length (now (out .entry))) ⌝ }
+    ensures { λ r. ⌜ r ≡ codeOf (generateAnswer modulus (now (a .entry)) (now (b .entry)) length (now (out .entry))) ⌝ }
     ensures { λ r. ⌜ now (out .exit) ≡ generatedIn (generateOf modulus (now (a .entry)) (now (b .entry)) length (now (out .entry))) modulus (now (a .entry)) (now (b .entry)) length (now (out .entry)) ⌝ }
 {
     let o = candidate::generate(modulus, a, b, length, out);

@@ -331,7 +331,8 @@ fn forge(s: Sequence, c: Call) -> Turn {
         return kept(s, false);
     }
     text(b"forge ok");
-    held(sequence::load(&query))
+    let q = sequence::check(&query);
+    held(q.sequence)
 }
 
 fn unknown(s: Sequence, operation: u8) -> Turn {

@@ -1,6 +1,7 @@
 -- What the register and the profile of a sequence reply and write.
 -- Assumes nothing.
-use mathlib.Core.List.{List}
+use mathlib.Core.Bool.{not}
+use mathlib.Core.List.{List, [], _∷_}
 use Prim.Native.Nat.{ℕ}
 use lib.Dec.{eqb}
 use lib.ListN.{length}
@@ -16,6 +17,7 @@ use Rattle.sequence.specs.declared.Outcome.the-variants as O
 use Rattle.sequence.specs.declared.Reported.{Reported}
 use Rattle.sequence.specs.declared.Reported.the-variants as P
 use Rattle.sequence.specs.Limits.{maxTerms, maxCells, aBytes, bBytes, profileBytes}
+use Rattle.sequence.specs.Answers.{Answer, granted, refused, firstOf}
 use Rattle.sequence.specs.Rules.{faultOf, isSound}
 
 -- the register of a sequence: of its first `count` terms
@@ -42,6 +44,15 @@ reportOf s a b =
     (P.Refused R.Buffer))
     (P.Refused R.Buffer)
 
+abbrev pub reportAnswer : Sequence → List ℕ → List ℕ → Answer
+reportAnswer s a b =
+    firstOf
+    ((not (eqb (length a) aBytes), refused 5)
+    ∷ (not (eqb (length b) bBytes), refused 5)
+    ∷ (not (isSound (faultOf s)), refused 21)
+    ∷ [])
+    (granted (registerOf s .length ∷ []))
+
 -- a buffer at exit: written, or as lent
 abbrev pub written : Reported → List ℕ → List ℕ → List ℕ
 written (P.Length l) new old = new
@@ -53,6 +64,9 @@ profileOf s cells =
     pick (eqb (length cells) profileBytes)
     (pick (isSound (faultOf s)) O.Done (O.Refused R.Sequence))
     (O.Refused R.Buffer)
+
+abbrev pub profileAnswer : Sequence → List ℕ → Answer
+profileAnswer s cells = firstOf ((not (eqb (length cells) profileBytes), refused 5) ∷ (not (isSound (faultOf s)), refused 21) ∷ []) (granted [])
 
 abbrev pub filled : Outcome → List ℕ → List ℕ → List ℕ
 filled O.Done new old = new

@@ -1,17 +1,16 @@
 -- What a sequence is (the paper's reading), what is wrong with one, and what opening one and pushing a term reply.
 -- Assumes nothing.
 use mathlib.Core.Path.{_≡_}
-use mathlib.Core.Bool.{Bool, true, false}
-use mathlib.Core.List.{List}
+use mathlib.Core.Bool.{Bool, true, false, not}
+use mathlib.Core.List.{List, [], _∷_}
 use Prim.Native.Nat.{ℕ, zero, _+_, _≤_, _<_}
 use lib.Dec.{ltb, leb, eqb}
 use lib.ListN.{length, set, replicate}
 use Rattle.lists.specs.Choice.{pick}
-use Rattle.lists.specs.Table.{at}
+use Rattle.lists.specs.Table.{at, tabulate}
 use Rattle.lists.specs.Search.{first, all}
-use Rattle.cells.specs.Cell.{cellAt, cellsFrom}
+use Rattle.cells.specs.Cell.{cellAt, cellsFrom, bytesOf}
 use Rattle.sequence.specs.declared.Sequence.{Sequence}
-use Rattle.sequence.specs.declared.Refusal.{Refusal}
 use Rattle.sequence.specs.declared.Refusal.the-variants as R
 use Rattle.sequence.specs.declared.Outcome.{Outcome}
 use Rattle.sequence.specs.declared.Outcome.the-variants.{Done, Refused}
@@ -19,20 +18,9 @@ use Rattle.sequence.specs.declared.Fault.{Fault}
 use Rattle.sequence.specs.declared.Fault.the-variants.{Sound, Modulus, Count, Term, Padding}
 use Rattle.sequence.specs.declared.Opened.{Opened}
 use Rattle.sequence.specs.declared.Pushed.{Pushed}
+use Rattle.sequence.specs.declared.Checked.{Checked}
 use Rattle.sequence.specs.Limits.{maxModulus, maxTerms, queryBytes}
-
--- the paper's number of a refusal
-abbrev pub number : Refusal → ℕ
-number R.Modulus = 1
-number R.Count = 2
-number R.Term = 3
-number R.Padding = 4
-number R.Buffer = 5
-number R.Candidate = 6
-number R.Sequence = 21
-number R.Full = 22
-number R.Catalogue = 23
-number R.Record = 24
+use Rattle.sequence.specs.Answers.{Answer, granted, refused, firstOf}
 
 -- ---- what is wrong with a sequence
 
@@ -43,9 +31,9 @@ outside m = pick (ltb m 2) true (ltb maxModulus m)
 abbrev pub firstLarge : ℕ → List ℕ → ℕ → ℕ
 firstLarge m terms n = first n (λ i. leb m (at terms i))
 
--- every place from n on holds zero
-abbrev pub zeroFrom : ℕ → List ℕ → Bool
-zeroFrom n terms = all maxTerms (λ i. pick (ltb i n) true (eqb (at terms i) zero))
+-- each of the first n numbers from place k on is zero
+abbrev pub zeroFrom : ℕ → ℕ → List ℕ → Bool
+zeroFrom k n xs = all n (λ i. pick (ltb i k) true (eqb (at xs i) zero))
 
 -- the first thing wrong, in the order of the refusals 1, 2, 3, 4
 unfoldable pub faultOf : Sequence → Fault
@@ -53,7 +41,7 @@ faultOf s =
     pick (outside (s .modulus)) Modulus
     (pick (ltb maxTerms (s .count)) Count
     (pick (ltb (firstLarge (s .modulus) (s .terms) (s .count)) (s .count)) (Term (firstLarge (s .modulus) (s .terms) (s .count)))
-    (pick (zeroFrom (s .count) (s .terms)) Sound Padding)))
+    (pick (zeroFrom (s .count) maxTerms (s .terms)) Sound Padding)))
 
 abbrev pub isSound : Fault → Bool
 isSound Sound = true
@@ -80,6 +68,9 @@ fresh m = record { modulus = m; count = 0; terms = replicate maxTerms 0 }
 unfoldable pub openOf : ℕ → Opened
 openOf m = pick (outside m) (record { sequence = fresh 0; outcome = Refused R.Modulus }) (record { sequence = fresh m; outcome = Done })
 
+abbrev pub openAnswer : ℕ → Answer
+openAnswer m = firstOf ((outside m, refused 1) ∷ []) (granted [])
+
 -- the sequence with one term more
 abbrev pub longer : Sequence → ℕ → Sequence
 longer s t = record { modulus = s .modulus; count = s .count + 1; terms = set (s .terms) (s .count) t }
@@ -92,7 +83,20 @@ pushOf s t =
     (pick (leb (s .modulus) t) (record { sequence = s; outcome = Refused R.Term }) (record { sequence = longer s t; outcome = Done })))
     (record { sequence = s; outcome = Refused R.Sequence })
 
+abbrev pub pushAnswer : Sequence → ℕ → Answer
+pushAnswer s t =
+    firstOf
+    ((not (isSound (faultOf s)), refused 21)
+    ∷ (eqb (s .count) maxTerms, refused 22)
+    ∷ (leb (s .modulus) t, refused 3)
+    ∷ [])
+    (granted [])
+
 -- ---- queries
+
+-- the query of these terms
+abbrev pub queryOf : ℕ → List ℕ → List ℕ
+queryOf m ts = bytesOf (m ∷ length ts ∷ tabulate maxTerms (at ts))
 
 -- the sequence that a query writes down: modulus, count, terms
 unfoldable pub sequenceOf : List ℕ → Sequence
@@ -101,6 +105,20 @@ sequenceOf query = record { modulus = cellAt query 0; count = cellAt query 1; te
 -- the first refusal of a query among 5, 1, 2, 3, 4
 unfoldable pub checkOf : List ℕ → Outcome
 checkOf query = pick (eqb (length query) queryBytes) (refusalOf (faultOf (sequenceOf query))) (Refused R.Buffer)
+
+-- the sequence of a query with its refusal; a query of another length writes none down
+unfoldable pub checkedOf : List ℕ → Checked
+checkedOf query = record { sequence = pick (eqb (length query) queryBytes) (sequenceOf query) (fresh 0); outcome = checkOf query }
+
+-- the same refusals by their numbers, for the calls that are handed a query
+abbrev pub queryRefusals : List ℕ → List (Bool × Answer)
+queryRefusals query =
+    (not (eqb (length query) queryBytes), refused 5)
+    ∷ (outside (sequenceOf query .modulus), refused 1)
+    ∷ (ltb maxTerms (sequenceOf query .count), refused 2)
+    ∷ (ltb (firstLarge (sequenceOf query .modulus) (sequenceOf query .terms) (sequenceOf query .count)) (sequenceOf query .count), refused 3)
+    ∷ (not (zeroFrom (sequenceOf query .count) maxTerms (sequenceOf query .terms)), refused 4)
+    ∷ []
 
 -- a sequence within the limits
 pub record IsSound (s : Sequence) : Type 0 where

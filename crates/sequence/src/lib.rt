@@ -1,5 +1,6 @@
 // A sequence of terms modulo m (the paper's reading): opening one, pushing a term, its register and its profile; what is wrong with one,
 // and the query that writes one down.
+use steps::CELLS;
 use steps::TERMS;
 use synthesis::Synthesis;
 ghost use mathlib.Core.Path.{_≡_};
@@ -8,25 +9,28 @@ ghost use lib.ListN.{length};
 ghost use mathlib.Core.List.{_++_};
 ghost use Rattle.cells.specs.Cell.{bytesOf};
 ghost use Rattle.synthesis.specs.Synthesis.{synthesisOf};
-ghost use Rattle.sequence.specs.Limits.{maxTerms, maxCells, queryBytes, registerBytes};
-ghost use Rattle.sequence.specs.Report.{reportOf, written, aBuffer, bBuffer, profileOf, filled, profileBuffer};
-ghost use Rattle.sequence.specs.Rules.{number, IsSound, firstLarge, zeroFrom, faultOf, refusalOf, isSound, openOf, pushOf, sequenceOf, checkOf};
+ghost use Rattle.sequence.specs.Limits.{maxTerms, maxCells, queryBytes, aBytes, bBytes, registerBytes};
+ghost use Rattle.sequence.specs.Answers.{number, outcomeAnswer, reportedAnswer};
+ghost use Rattle.sequence.specs.Report.{reportOf, reportAnswer, written, aBuffer, bBuffer, profileOf, profileAnswer, filled, profileBuffer};
+ghost use Rattle.sequence.specs.Rules.{IsSound, outside, firstLarge, zeroFrom, faultOf, refusalOf, isSound, fresh, openOf, openAnswer, pushOf, pushAnswer, sequenceOf, checkedOf};
 
-// The limits, and the sizes of lent buffers in bytes.
-pub const MAX_MODULUS: u32 = 4095;
+// The largest modulus.
+const MAX_MODULUS: u32 = 4095;
 
-pub const MAX_TERMS: u32 = 128;
+// The number of terms that there is room for, as counts and lengths are held.
+pub const MAX_TERMS: u32 = TERMS as u32;
 
-pub const QUERY_BYTES: usize = 260;
+// The sizes of lent buffers in bytes, two for each cell. A query has the modulus and the count before its terms.
+pub const QUERY_BYTES: usize = 2 * (2 + TERMS);
 
-pub const A_BYTES: usize = 258;
+pub const A_BYTES: usize = 2 * CELLS;
 
-pub const B_BYTES: usize = 256;
+pub const B_BYTES: usize = 2 * TERMS;
 
-pub const PROFILE_BYTES: usize = 258;
+const PROFILE_BYTES: usize = 2 * CELLS;
 
 // a, and b behind it.
-const REGISTER_BYTES: usize = 514;
+const REGISTER_BYTES: usize = A_BYTES + B_BYTES;
 
 // A reading: terms past the count are zero.
 pub struct Sequence {
@@ -35,7 +39,7 @@ pub struct Sequence {
     pub terms: [u32; TERMS],
 }
 
-// Why a call did nothing. `Rules.number` has the paper's number of each.
+// Why a call did nothing. `Answers.number` has the paper's number of each.
 pub enum Refusal {
     Modulus,
     Count,
@@ -70,6 +74,12 @@ pub struct Pushed {
     pub outcome: Outcome,
 }
 
+// The sequence that a query writes down, and whether the query is refused.
+pub struct Checked {
+    pub sequence: Sequence,
+    pub outcome: Outcome,
+}
+
 // The first thing wrong with a sequence; of a term, its place.
 pub enum Fault {
     Sound,
@@ -79,41 +89,47 @@ pub enum Fault {
     Padding,
 }
 
+// Whether a modulus lies outside the limits.
+pub fn outside(modulus: u32) -> bool
+    ensures { λ r. ⌜ r ≡ outside modulus ⌝ }
+{
+    if modulus < 2 {
+        return true;
+    }
+    if MAX_MODULUS < modulus {
+        return true;
+    }
+    false
+}
+
+// A sequence without terms.
+fn fresh(modulus: u32) -> Sequence
+    ensures { λ r. ⌜ r ≡ fresh modulus ⌝ }
+{
+    let terms = [0u32; TERMS];
+    Sequence {
+        modulus: modulus,
+        count: 0,
+        terms: terms,
+    }
+}
+
 // A fresh sequence for a modulus within the limits; else one of zeros, with the refusal.
 // Rejected: an open that takes 4,096; one that refuses 1 but hands back a sequence modulo 1.
 pub fn open(modulus: u32) -> Opened
     ensures { λ r. ⌜ r ≡ openOf modulus ⌝ }
+    ensures { λ r. ⌜ outcomeAnswer (r .outcome) ≡ openAnswer modulus ⌝ }
 {
-    let terms = [0u32; TERMS];
-    if modulus < 2 {
-        let zeros = Sequence {
-            modulus: 0,
-            count: 0,
-            terms: terms,
-        };
+    if outside(modulus) {
+        let zeros = fresh(0);
         return Opened {
             sequence: zeros,
             outcome: Outcome::Refused(Refusal::Modulus),
         };
     }
-    if MAX_MODULUS < modulus {
-        let zeros = Sequence {
-            modulus: 0,
-            count: 0,
-            terms: terms,
-        };
-        return Opened {
-            sequence: zeros,
-            outcome: Outcome::Refused(Refusal::Modulus),
-        };
-    }
-    let fresh = Sequence {
-        modulus: modulus,
-        count: 0,
-        terms: terms,
-    };
+    let s = fresh(modulus);
     Opened {
-        sequence: fresh,
+        sequence: s,
         outcome: Outcome::Done,
     }
 }
@@ -136,7 +152,7 @@ fn first_large(terms: &[u32; TERMS], n: u32, modulus: u32) -> u32
 // Whether every term from place n on is zero.
 fn zero_from(terms: &[u32; TERMS], n: u32) -> bool
     requires { ⌜ (n ≤ maxTerms) × (length (now terms) ≡ maxTerms) ⌝ }
-    ensures { λ r. ⌜ r ≡ zeroFrom n (now (terms .entry)) ⌝ }
+    ensures { λ r. ⌜ r ≡ zeroFrom n maxTerms (now (terms .entry)) ⌝ }
 {
     let mut i = n as usize;
     while i < TERMS {
@@ -149,15 +165,12 @@ fn zero_from(terms: &[u32; TERMS], n: u32) -> bool
 }
 
 // The first thing wrong with a sequence, in the order of the refusals 1, 2, 3, 4.
-pub fn inspect(s: Sequence) -> Fault
+fn inspect(s: Sequence) -> Fault
     ensures { λ f. ⌜ f ≡ faultOf s ⌝ }
 {
     let m = s.modulus;
     let n = s.count;
-    if m < 2 {
-        return Fault::Modulus;
-    }
-    if MAX_MODULUS < m {
+    if outside(m) {
         return Fault::Modulus;
     }
     if MAX_TERMS < n {
@@ -175,7 +188,7 @@ pub fn inspect(s: Sequence) -> Fault
 }
 
 // The refusal of a query with that fault. (The place of a term is not told yet.)
-pub fn refuse(f: Fault) -> Outcome
+fn refuse(f: Fault) -> Outcome
     ensures { λ r. ⌜ r ≡ refusalOf f ⌝ }
 {
     match f {
@@ -188,7 +201,7 @@ pub fn refuse(f: Fault) -> Outcome
 }
 
 // Whether a sequence is within the limits: nothing is wrong with it.
-pub fn is_sound(s: Sequence) -> bool
+fn is_sound(s: Sequence) -> bool
     ensures { λ r. ⌜ r ≡ isSound (faultOf s) ⌝ }
 {
     let f = inspect(s);
@@ -202,9 +215,11 @@ pub fn is_sound(s: Sequence) -> bool
 }
 
 // The sequence with one more term at its end; as it came, with the refusal, where it is unsound or full or the term is too large.
+// The whole sequence is inspected at each call: its fields are public, so that anyone can hand in one that no call made.
 // Rejected: a push that is full at 127 terms; one that stores a term and then refuses it.
 pub fn push(s: Sequence, term: u32) -> Pushed
     ensures { λ r. ⌜ r ≡ pushOf s term ⌝ }
+    ensures { λ r. ⌜ outcomeAnswer (r .outcome) ≡ pushAnswer s term ⌝ }
 {
     if is_sound(s) {
         let n = s.count;
@@ -235,7 +250,7 @@ pub fn push(s: Sequence, term: u32) -> Pushed
 }
 
 // The sequence that a query of 260 bytes writes down: modulus, count, 128 terms.
-pub fn load(query: &[u8]) -> Sequence
+fn load(query: &[u8]) -> Sequence
     requires { ⌜ length (now query) ≡ queryBytes ⌝ }
     ensures { λ r. ⌜ r ≡ sequenceOf (now (query .entry)) ⌝ }
 {
@@ -254,16 +269,24 @@ pub fn load(query: &[u8]) -> Sequence
     }
 }
 
-// The first refusal of a query among 5, 1, 2, 3, 4.
-pub fn check(query: &[u8]) -> Outcome
-    ensures { λ r. ⌜ r ≡ checkOf (now (query .entry)) ⌝ }
+// The sequence of a query, with the query's first refusal among 5, 1, 2, 3, 4. A query of another length writes none down: zeros.
+pub fn check(query: &[u8]) -> Checked
+    ensures { λ r. ⌜ r ≡ checkedOf (now (query .entry)) ⌝ }
 {
     if query.len() != QUERY_BYTES {
-        return Outcome::Refused(Refusal::Buffer);
+        let zeros = fresh(0);
+        return Checked {
+            sequence: zeros,
+            outcome: Outcome::Refused(Refusal::Buffer),
+        };
     }
     let s = load(query);
     let f = inspect(s);
-    refuse(f)
+    let o = refuse(f);
+    Checked {
+        sequence: s,
+        outcome: o,
+    }
 }
 
 // The paper's number of a refusal.
@@ -293,6 +316,21 @@ pub fn solve(s: Sequence) -> Synthesis
     synthesis::synthesize(s.modulus, &terms, s.count as usize)
 }
 
+// Writes the coefficients of a as cells, and those of b: in a report, and in a record.
+fn write_a(a: &[u32; CELLS], out: &mut [u8])
+    requires { ⌜ (length (now a) ≡ maxCells) × (length (now out) ≡ aBytes) ⌝ }
+    ensures { λ _. ⌜ now (out .exit) ≡ bytesOf (now (a .entry)) ⌝ }
+{
+    cells::write(out, a);
+}
+
+fn write_b(b: &[u32; TERMS], out: &mut [u8])
+    requires { ⌜ (length (now b) ≡ maxTerms) × (length (now out) ≡ bBytes) ⌝ }
+    ensures { λ _. ⌜ now (out .exit) ≡ bytesOf (now (b .entry)) ⌝ }
+{
+    cells::write(out, b);
+}
+
 // Writes a to 258 bytes and b to the 256 after them: how a register stands in a record.
 pub fn write_register(x: Synthesis, out: &mut [u8])
     requires { ⌜ (length (x .a) ≡ maxCells) × (length (x .b) ≡ maxTerms) × (length (now out) ≡ registerBytes) ⌝ }
@@ -300,8 +338,8 @@ pub fn write_register(x: Synthesis, out: &mut [u8])
 {
     let a = x.a;
     let b = x.b;
-    cells::write(&mut out[0..A_BYTES], &a);
-    cells::write(&mut out[A_BYTES..REGISTER_BYTES], &b);
+    write_a(&a, &mut out[0..A_BYTES]);
+    write_b(&b, &mut out[A_BYTES..REGISTER_BYTES]);
 }
 
 // Writes the shortest register of the terms, a to 129 cells and b to 128, and replies its length.
@@ -310,6 +348,7 @@ pub fn register(s: Sequence, a: &mut [u8], b: &mut [u8]) -> Reported
     ensures { λ r. ⌜ r ≡ reportOf s (now (a .entry)) (now (b .entry)) ⌝ }
     ensures { λ r. ⌜ now (a .exit) ≡ written r (aBuffer s) (now (a .entry)) ⌝ }
     ensures { λ r. ⌜ now (b .exit) ≡ written r (bBuffer s) (now (b .entry)) ⌝ }
+    ensures { λ r. ⌜ reportedAnswer r ≡ reportAnswer s (now (a .entry)) (now (b .entry)) ⌝ }
 {
     if a.len() != A_BYTES {
         return Reported::Refused(Refusal::Buffer);
@@ -321,8 +360,8 @@ pub fn register(s: Sequence, a: &mut [u8], b: &mut [u8]) -> Reported
         let x = solve(s);
         let xa = x.a;
         let xb = x.b;
-        cells::write(a, &xa);
-        cells::write(b, &xb);
+        write_a(&xa, a);
+        write_b(&xb, b);
         return Reported::Length(x.length);
     }
     Reported::Refused(Refusal::Sequence)
@@ -333,6 +372,7 @@ pub fn register(s: Sequence, a: &mut [u8], b: &mut [u8]) -> Reported
 pub fn profile(s: Sequence, cells: &mut [u8]) -> Outcome
     ensures { λ r. ⌜ r ≡ profileOf s (now (cells .entry)) ⌝ }
     ensures { λ r. ⌜ now (cells .exit) ≡ filled r (profileBuffer s) (now (cells .entry)) ⌝ }
+    ensures { λ r. ⌜ outcomeAnswer r ≡ profileAnswer s (now (cells .entry)) ⌝ }
 {
     if cells.len() != PROFILE_BYTES {
         return Outcome::Refused(Refusal::Buffer);

@@ -19,14 +19,14 @@ all-below-requires c κs = search needs
 all-below-requires-2 : tie.Need-all-below-requires-2
 all-below-requires-2 c κs = search needs
 
-add-zero-past : tie.Need-add-zero-past
-add-zero-past c = search needs
+add-zero-from : tie.Need-add-zero-from
+add-zero-from c = search needs
 
-zero-past-requires : tie.Need-zero-past-requires
-zero-past-requires c κs = search needs
+zero-from-requires : tie.Need-zero-from-requires
+zero-from-requires c κs = search needs
 
-zero-past-requires-2 : tie.Need-zero-past-requires-2
-zero-past-requires-2 c κs = search needs
+zero-from-requires-2 : tie.Need-zero-from-requires-2
+zero-from-requires-2 c κs = search needs
 
 cell-requires : tie.Need-cell-requires
 cell-requires c κs = search needs
@@ -44,9 +44,9 @@ returns-2 c =
       p .if2 .taken,
       ← q .before .all-below2 .ensures,
       q .if3 .taken,
-      ← r .before .zero-past .ensures,
+      ← r .before .zero-from .ensures,
       r .if4 .taken,
-      ← t .before .zero-past2 .ensures,
+      ← t .before .zero-from2 .ensures,
       t .if5 .taken,
       at-cells _ maxCells 0 (omega arith),
       ← c .before .cell .ensures .0,
@@ -66,9 +66,9 @@ returns-3 c =
       p .if2 .taken,
       ← q .before .all-below2 .ensures,
       q .if3 .taken,
-      ← r .before .zero-past .ensures,
+      ← r .before .zero-from .ensures,
       r .if4 .taken,
-      ← t .before .zero-past2 .ensures,
+      ← t .before .zero-from2 .ensures,
       t .if5 .taken,
       at-cells _ maxCells 0 (omega arith),
       ← c .before .cell .ensures .0,
@@ -87,9 +87,9 @@ returns-4 c =
       p .if2 .taken,
       ← q .before .all-below2 .ensures,
       q .if3 .taken,
-      ← r .before .zero-past .ensures,
+      ← r .before .zero-from .ensures,
       r .if4 .taken,
-      ← c .before .zero-past2 .ensures,
+      ← c .before .zero-from2 .ensures,
       c .if5 .left,
     )
 
@@ -98,7 +98,7 @@ unfolding flawOf
 returns-5 c =
     let q = c .before .before in
     let p = q .before .before in
-    rw (le-ltb _ _ (p .before .before .if1 .left), ← p .before .all-below .ensures, p .if2 .taken, ← q .before .all-below2 .ensures, q .if3 .taken, ← c .before .zero-past .ensures, c .if4 .left)
+    rw (le-ltb _ _ (p .before .before .if1 .left), ← p .before .all-below .ensures, p .if2 .taken, ← q .before .all-below2 .ensures, q .if3 .taken, ← c .before .zero-from .ensures, c .if4 .left)
 
 returns-6 : tie.Need-returns-6
 unfolding flawOf
@@ -117,9 +117,9 @@ find-flaw-spec =
     returns
     all-below-requires
     all-below-requires-2
-    add-zero-past
-    zero-past-requires
-    zero-past-requires-2
+    add-zero-from
+    zero-from-requires
+    zero-from-requires-2
     cell-requires
     returns-2
     returns-3

@@ -3,9 +3,8 @@
 use mathlib.Core.Path.{refl, sym, _∙_}
 use borrow.Author.Needs.{needs}
 use borrow.Author.Tests.{eq-eqb, ne-eqb}
-use Rattle.sequence.proofs.Laws.{check-done}
 use Rattle.catalogue.specs.Rules.{answerOf}
-use Rattle.catalogue.proofs.Laws.{match-below}
+use Rattle.catalogue.proofs.Laws.{is-made, match-below, is-served}
 use Rattle.catalogue.proofs.answer.Statement.{statement}
 use Rattle.catalogue.proofs.answer.Tie as tie
 
@@ -14,7 +13,7 @@ unfolding answerOf
 returns c = (simp (ne-eqb _ _ (c .if1 .taken)), refl)
 
 find-requires : tie.Need-find-requires
-find-requires c κs = check-done _ (c .before .before .before .before .pre .0) .0
+find-requires c κs = search needs
 
 enum-known-f : tie.Need-enum-known-f
 enum-known-f c = search needs
@@ -22,7 +21,8 @@ enum-known-f c = search needs
 serve-requires : tie.Need-serve-requires
 serve-requires c κs =
     let f = c .before .before .before .before in
-    (match-below _ _ _ (sym (f .find .ensures) ∙ c .before .before .f .given .1), f .before .before .before .before .before .pre .1)
+    let s = f .before .before .before .before .before in
+    (s .pre .2, match-below _ _ _ (sym (f .find .ensures) ∙ c .before .before .f .given .1), s .pre .3)
 
 enum-told : tie.Need-enum-told
 enum-told c = search needs
@@ -37,8 +37,12 @@ returns-2 : tie.Need-returns-2
 unfolding answerOf
 returns-2 c =
     let f = c .before .before .before .before .before .before .before in
-    let told = c .before .before .serve .ensures in
-    (simp (eq-eqb _ _ (f .before .if1 .left), ← f .find .ensures, c .before .before .before .before .before .f .given .1) (told .0), told .1)
+    let s = f .before .before .before .before .before in
+    let m = c .before .before .before .before .before .f in
+    let told = c .before .before .serve .ensures in (
+      simp (eq-eqb _ _ (f .before .if1 .left), ← f .find .ensures, m .given .1, ← s .pre .1) (told .0),
+      is-served (s .args .s) (s .args .query .now) (s .args .catalogue .now) (s .args .out .now) (m .given .0 .0) (told .0) (told .1),
+    )
 
 same-length-2 : tie.Need-same-length-2
 same-length-2 c = search needs
@@ -47,7 +51,10 @@ returns-3 : tie.Need-returns-3
 unfolding answerOf
 returns-3 c =
     let f = c .before .before .before .before .before .before in
-    (simp (eq-eqb _ _ (f .before .if1 .left), ← f .find .ensures, c .before .before .before .before .enum-told .given .1), c .before .before .write-record .ensures)
+    let s = f .before .before .before .before .before in (
+      simp (eq-eqb _ _ (f .before .if1 .left), ← f .find .ensures, c .before .before .before .before .enum-told .given .1),
+      c .before .before .write-record .ensures ∙ is-made _ _ (s .pre .1),
+    )
 
 pub answer-spec : {M : Type 1} → statement M
 answer-spec =

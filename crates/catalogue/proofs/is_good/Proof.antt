@@ -9,26 +9,26 @@ use Rattle.catalogue.proofs.is_good.Tie as tie
 cell-requires : tie.Need-cell-requires
 cell-requires c κs = search needs
 
-sub-verify : tie.Need-sub-verify
-sub-verify c = search needs
+sub-judge : tie.Need-sub-judge
+sub-judge c = search needs
 
-part-verify-start : tie.Need-part-verify-start
-part-verify-start c = search needs
+part-judge-start : tie.Need-part-judge-start
+part-judge-start c = search needs
 
-part-verify-end : tie.Need-part-verify-end
-part-verify-end c = search needs
+part-judge-end : tie.Need-part-judge-end
+part-judge-end c = search needs
 
-sub-verify-2 : tie.Need-sub-verify-2
-sub-verify-2 c = search needs
+sub-judge-2 : tie.Need-sub-judge-2
+sub-judge-2 c = search needs
 
-part-verify-start-2 : tie.Need-part-verify-start-2
-part-verify-start-2 c = search needs
+part-judge-start-2 : tie.Need-part-judge-start-2
+part-judge-start-2 c = search needs
 
-part-verify-end-2 : tie.Need-part-verify-end-2
-part-verify-end-2 c = search needs
+part-judge-end-2 : tie.Need-part-judge-end-2
+part-judge-end-2 c = search needs
 
-verify-requires : tie.Need-verify-requires
-verify-requires c κs = search needs
+judge-requires : tie.Need-judge-requires
+judge-requires c κs = search needs
 
 enum-told : tie.Need-enum-told
 enum-told c = search needs
@@ -44,34 +44,34 @@ unfolding passes
 returns c =
     let k = c .before .before in
     let l = k .before .before .before .cell in
-    simp (← l .ensures .0) (ap isYes (sym (c .enum-told .given .1) ∙ k .verify .ensures))
+    simp (← l .ensures .0) (ap isYes (sym (c .enum-told .given .1) ∙ k .judge .ensures))
 
 returns-2 : tie.Need-returns-2
 unfolding passes
 returns-2 c =
     let k = c .before .before in
     let l = k .before .before .before .cell in
-    simp (← l .ensures .0) (ap isYes (sym (c .enum-told2 .given .1) ∙ k .verify .ensures))
+    simp (← l .ensures .0) (ap isYes (sym (c .enum-told2 .given .1) ∙ k .judge .ensures))
 
 returns-3 : tie.Need-returns-3
 unfolding passes
 returns-3 c =
     let k = c .before .before in
     let l = k .before .before .before .cell in
-    simp (← l .ensures .0) (ap isYes (sym (c .enum-told3 .given .1) ∙ k .verify .ensures))
+    simp (← l .ensures .0) (ap isYes (sym (c .enum-told3 .given .1) ∙ k .judge .ensures))
 
 pub is-good-spec : {M : Type 1} → statement M
 is-good-spec =
     tie.close
     (tie.spec
     cell-requires
-    sub-verify
-    part-verify-start
-    part-verify-end
-    sub-verify-2
-    part-verify-start-2
-    part-verify-end-2
-    verify-requires
+    sub-judge
+    part-judge-start
+    part-judge-end
+    sub-judge-2
+    part-judge-start-2
+    part-judge-end-2
+    judge-requires
     enum-told
     enum-told-2
     enum-told-3

@@ -35,15 +35,15 @@ same-length c = search needs
 returns : tie.Need-returns
 returns c =
     let g = c .before .before .before .before in
-    let s = g .before .before .before .before .before .before .args in (
-      simp (← cut-record (s .catalogue .now) (s .i * recordBytes), ← g .before .is-good .ensures, g .if1 .taken),
-      c .before .before .copy .ensures ∙ cut-record (s .catalogue .now) (s .i * recordBytes),
-    )
+    let s = g .before .before .before .before .before .args in
+    let cut = cut-record (s .catalogue .now) (s .i * recordBytes) in
+    (simp (← cut, ← g .before .is-good .ensures, g .if1 .taken), simp (← cut, ← g .before .is-good .ensures, g .if1 .taken) (c .before .before .copy .ensures))
 
 returns-2 : tie.Need-returns-2
 returns-2 c =
-    let s = c .before .before .before .before .before .before .args in
-    (simp (← cut-record (s .catalogue .now) (s .i * recordBytes), ← c .before .is-good .ensures, c .if1 .left), refl)
+    let s = c .before .before .before .before .before .args in
+    let cut = cut-record (s .catalogue .now) (s .i * recordBytes) in
+    (simp (← cut, ← c .before .is-good .ensures, c .if1 .left), simp (← cut, ← c .before .is-good .ensures, c .if1 .left))
 
 pub serve-spec : {M : Type 1} → statement M
 serve-spec =

@@ -1,22 +1,17 @@
 -- `catalogue::write_record` meets its contract: the three calls fill the record, the last through the part from byte 262 on.
 -- Assumes nothing.
-use mathlib.Core.Path.{sym, subst, _∙_}
+use mathlib.Core.Path.{sym, _∙_}
 use native.Mathlib.Omega.{arith}
 use lib.Seq.{length-take-le}
 use borrow.Author.Needs.{needs}
 use Rattle.sequence.specs.Limits.{queryBytes}
-use Rattle.sequence.specs.Rules.{IsSound}
-use Rattle.sequence.proofs.Laws.{check-done}
 use Rattle.sequence.proofs.Report.{long-a, long-b}
 use Rattle.catalogue.proofs.Laws.{is-record}
 use Rattle.catalogue.proofs.write_record.Statement.{statement}
 use Rattle.catalogue.proofs.write_record.Tie as tie
 
-load-requires : tie.Need-load-requires
-load-requires c κs = check-done _ (c .before .before .pre .0) .0
-
 solve-requires : tie.Need-solve-requires
-solve-requires c κs = subst IsSound (sym (c .load .ensures)) (check-done _ (c .before .before .before .pre .0) .1)
+solve-requires c κs = search needs
 
 sub-copy : tie.Need-sub-copy
 sub-copy c = search needs
@@ -29,8 +24,8 @@ part-copy-end c = search needs
 
 copy-requires : tie.Need-copy-requires
 copy-requires c κs =
-    let s = c .before .before .before .before .before in
-    check-done _ (s .pre .0) .0 ∙ sym (length-take-le queryBytes (s .args .out .now) (omega (arith, s .pre .1)))
+    let s = c .before .before .before .before in
+    s .pre .0 ∙ sym (length-take-le queryBytes (s .args .out .now) (omega (arith, s .pre .2)))
 
 sub-put : tie.Need-sub-put
 sub-put c = search needs
@@ -64,17 +59,16 @@ same-length c = search needs
 returns : tie.Need-returns
 returns c =
     let v = c .before .before .before .before .before .before .before .before .before .before .before .before in
-    let s = v .before .before .before .before in
+    let s = v .before .before .before in
     let copied = c .before .before .before .before .before .before .before .before .before .before .copy in
     let put = c .before .before .before .before .before .before .put in
     let written = c .before .before .write-register in
-    is-record (s .args .out .now) _ _ _ _ (v .before .load .result) (v .solve .result) (s .pre .1) (check-done _ (s .pre .0) .0) (copied .ensures) (put .ensures) (written .ensures) (v .before .load .ensures) (v .solve .ensures)
+    is-record (s .args .out .now) _ _ _ _ (s .args .s) (v .solve .result) (s .pre .2) (s .pre .0) (copied .ensures) (put .ensures) (written .ensures) (v .solve .ensures)
 
 pub write-record-spec : {M : Type 1} → statement M
 write-record-spec =
     tie.close
     (tie.spec
-    load-requires
     solve-requires
     sub-copy
     part-copy-start

@@ -2,9 +2,11 @@
 -- Assumes nothing.
 use mathlib.Core.Path.{sym, ap, _∙_}
 use borrow.Author.Needs.{needs}
+use Rattle.sequence.specs.Answers.{outcomeAnswer}
 use Rattle.sequence.specs.declared.Outcome.{Outcome}
 use Rattle.candidate.specs.Rules.{generatedIn}
-use Rattle.diverthrone.specs.Codes.{outcomeCode}
+use Rattle.diverthrone.specs.Codes.{codeOf}
+use Rattle.diverthrone.proofs.Laws.{plain}
 use Rattle.diverthrone.proofs.diverthrone_generate.Statement.{statement}
 use Rattle.diverthrone.proofs.diverthrone_generate.Tie as tie
 
@@ -27,8 +29,8 @@ returns : tie.Need-returns
 returns c =
     let m = c .before .before .before .before in
     let s = m .before .before .before .before .before .args in (
-      ap outcomeCode (sym (c .enum-told .given .1) ∙ m .generate .ensures .0),
-      m .generate .ensures .1 ∙ ap (λ (z : Outcome). generatedIn z (s .modulus) (s .a .now) (s .b .now) (s .length) (s .out .now)) (m .generate .ensures .0),
+      ap (λ (z : Outcome). codeOf (outcomeAnswer z)) (sym (c .enum-told .given .1)) ∙ ap codeOf (m .generate .ensures .1 .1),
+      m .generate .ensures .1 .0 ∙ ap (λ (z : Outcome). generatedIn z (s .modulus) (s .a .now) (s .b .now) (s .length) (s .out .now)) (m .generate .ensures .0),
     )
 
 same-length-2 : tie.Need-same-length-2
@@ -38,8 +40,8 @@ returns-2 : tie.Need-returns-2
 returns-2 c =
     let m = c .before .before .before .before .before .before in
     let s = m .before .before .before .before .before .args in (
-      c .number .ensures .0 ∙ ap outcomeCode (sym (c .before .before .o .given .1) ∙ m .generate .ensures .0),
-      m .generate .ensures .1 ∙ ap (λ (z : Outcome). generatedIn z (s .modulus) (s .a .now) (s .b .now) (s .length) (s .out .now)) (m .generate .ensures .0),
+      plain (c .number .ensures .0) ∙ ap (λ (z : Outcome). codeOf (outcomeAnswer z)) (sym (c .before .before .o .given .1)) ∙ ap codeOf (m .generate .ensures .1 .1),
+      m .generate .ensures .1 .0 ∙ ap (λ (z : Outcome). generatedIn z (s .modulus) (s .a .now) (s .b .now) (s .length) (s .out .now)) (m .generate .ensures .0),
     )
 
 pub diverthrone-generate-spec : {M : Type 1} → statement M

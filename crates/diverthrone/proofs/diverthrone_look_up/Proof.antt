@@ -5,9 +5,10 @@ use Prim.Native.Nat.{_*_, _<_}
 use native.Mathlib.Omega.{arith}
 use borrow.Author.Needs.{needs}
 use Rattle.catalogue.specs.declared.LookedUp.{LookedUp}
-use Rattle.catalogue.specs.Rules.{recordBytes, servedIn}
+use Rattle.catalogue.specs.Rules.{recordBytes, lookedUpAnswer, servedIn}
 use Rattle.catalogue.proofs.Laws.{found-below}
-use Rattle.diverthrone.specs.Codes.{lookedUpCode}
+use Rattle.diverthrone.specs.Codes.{codeOf}
+use Rattle.diverthrone.proofs.Laws.{plain, valued}
 use Rattle.diverthrone.proofs.diverthrone_look_up.Statement.{statement}
 use Rattle.diverthrone.proofs.diverthrone_look_up.Tie as tie
 
@@ -47,8 +48,8 @@ returns : tie.Need-returns
 returns c =
     let m = c .before .before .before .before in
     let s = m .before .before .before .before .before .args in (
-      ap lookedUpCode (sym (c .enum-told .given .1) ∙ m .look-up .ensures .0),
-      m .look-up .ensures .1 ∙ ap (λ (z : LookedUp). servedIn z (s .query .now) (s .catalogue .now) (s .out .now)) (m .look-up .ensures .0),
+      ap (λ (z : LookedUp). codeOf (lookedUpAnswer z)) (sym (c .enum-told .given .1)) ∙ ap codeOf (m .look-up .ensures .1 .1),
+      m .look-up .ensures .1 .0 ∙ ap (λ (z : LookedUp). servedIn z (s .query .now) (s .catalogue .now) (s .out .now)) (m .look-up .ensures .0),
     )
 
 same-length-2 : tie.Need-same-length-2
@@ -58,8 +59,8 @@ returns-2 : tie.Need-returns-2
 returns-2 c =
     let m = c .before .before .before .before .before in
     let s = m .before .before .before .before .before .args in (
-      ap lookedUpCode (sym (c .before .t .given .1) ∙ m .look-up .ensures .0),
-      m .look-up .ensures .1 ∙ ap (λ (z : LookedUp). servedIn z (s .query .now) (s .catalogue .now) (s .out .now)) (m .look-up .ensures .0),
+      valued (c .before .t .given .0 .0) ∙ ap (λ (z : LookedUp). codeOf (lookedUpAnswer z)) (sym (c .before .t .given .1)) ∙ ap codeOf (m .look-up .ensures .1 .1),
+      m .look-up .ensures .1 .0 ∙ ap (λ (z : LookedUp). servedIn z (s .query .now) (s .catalogue .now) (s .out .now)) (m .look-up .ensures .0),
     )
 
 same-length-3 : tie.Need-same-length-3
@@ -69,8 +70,8 @@ returns-3 : tie.Need-returns-3
 returns-3 c =
     let m = c .before .before .before .before .before .before in
     let s = m .before .before .before .before .before .args in (
-      c .number .ensures .0 ∙ ap lookedUpCode (sym (c .before .before .t2 .given .1) ∙ m .look-up .ensures .0),
-      m .look-up .ensures .1 ∙ ap (λ (z : LookedUp). servedIn z (s .query .now) (s .catalogue .now) (s .out .now)) (m .look-up .ensures .0),
+      plain (c .number .ensures .0) ∙ ap (λ (z : LookedUp). codeOf (lookedUpAnswer z)) (sym (c .before .before .t2 .given .1)) ∙ ap codeOf (m .look-up .ensures .1 .1),
+      m .look-up .ensures .1 .0 ∙ ap (λ (z : LookedUp). servedIn z (s .query .now) (s .catalogue .now) (s .out .now)) (m .look-up .ensures .0),
     )
 
 pub diverthrone-look-up-spec : {M : Type 1} → statement M

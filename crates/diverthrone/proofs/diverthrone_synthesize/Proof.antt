@@ -2,10 +2,12 @@
 -- Assumes nothing.
 use mathlib.Core.Path.{sym, ap, _∙_}
 use borrow.Author.Needs.{needs}
+use Rattle.sequence.specs.Answers.{outcomeAnswer}
 use Rattle.sequence.specs.declared.Outcome.{Outcome}
 use Rattle.sequence.specs.Report.{filled}
 use Rattle.catalogue.specs.Rules.{recordOf}
-use Rattle.diverthrone.specs.Codes.{outcomeCode}
+use Rattle.diverthrone.specs.Codes.{codeOf}
+use Rattle.diverthrone.proofs.Laws.{plain}
 use Rattle.diverthrone.proofs.diverthrone_synthesize.Statement.{statement}
 use Rattle.diverthrone.proofs.diverthrone_synthesize.Tie as tie
 
@@ -28,8 +30,8 @@ returns : tie.Need-returns
 returns c =
     let m = c .before .before .before .before in
     let s = m .before .before .before .before .args in (
-      ap outcomeCode (sym (c .enum-told .given .1) ∙ m .synthesize .ensures .0),
-      m .synthesize .ensures .1 ∙ ap (λ (z : Outcome). filled z (recordOf (s .query .now)) (s .out .now)) (m .synthesize .ensures .0),
+      ap (λ (z : Outcome). codeOf (outcomeAnswer z)) (sym (c .enum-told .given .1)) ∙ ap codeOf (m .synthesize .ensures .1 .1),
+      m .synthesize .ensures .1 .0 ∙ ap (λ (z : Outcome). filled z (recordOf (s .query .now)) (s .out .now)) (m .synthesize .ensures .0),
     )
 
 same-length-2 : tie.Need-same-length-2
@@ -39,8 +41,8 @@ returns-2 : tie.Need-returns-2
 returns-2 c =
     let m = c .before .before .before .before .before .before in
     let s = m .before .before .before .before .args in (
-      c .number .ensures .0 ∙ ap outcomeCode (sym (c .before .before .o .given .1) ∙ m .synthesize .ensures .0),
-      m .synthesize .ensures .1 ∙ ap (λ (z : Outcome). filled z (recordOf (s .query .now)) (s .out .now)) (m .synthesize .ensures .0),
+      plain (c .number .ensures .0) ∙ ap (λ (z : Outcome). codeOf (outcomeAnswer z)) (sym (c .before .before .o .given .1)) ∙ ap codeOf (m .synthesize .ensures .1 .1),
+      m .synthesize .ensures .1 .0 ∙ ap (λ (z : Outcome). filled z (recordOf (s .query .now)) (s .out .now)) (m .synthesize .ensures .0),
     )
 
 pub diverthrone-synthesize-spec : {M : Type 1} → statement M

@@ -2,7 +2,10 @@
 -- Assumes nothing.
 use mathlib.Core.Path.{sym, ap, _∙_}
 use borrow.Author.Needs.{needs}
-use Rattle.diverthrone.specs.Codes.{verdictCode}
+use Rattle.candidate.specs.declared.Verdict.{Verdict}
+use Rattle.candidate.specs.Rules.{verdictAnswer}
+use Rattle.diverthrone.specs.Codes.{codeOf}
+use Rattle.diverthrone.proofs.Laws.{plain, valued}
 use Rattle.diverthrone.proofs.diverthrone_verify.Statement.{statement}
 use Rattle.diverthrone.proofs.diverthrone_verify.Tie as tie
 
@@ -31,13 +34,13 @@ number-requires : tie.Need-number-requires
 number-requires c κs = search needs
 
 returns : tie.Need-returns
-returns c = ap verdictCode (sym (c .enum-told .given .1) ∙ c .before .before .verify .ensures)
+returns c = ap (λ (z : Verdict). codeOf (verdictAnswer z)) (sym (c .enum-told .given .1)) ∙ ap codeOf (c .before .before .verify .ensures .1)
 
 returns-2 : tie.Need-returns-2
-returns-2 c = ap verdictCode (sym (c .before .v .given .1) ∙ c .before .before .before .verify .ensures)
+returns-2 c = valued (c .before .v .given .0 .0) ∙ ap (λ (z : Verdict). codeOf (verdictAnswer z)) (sym (c .before .v .given .1)) ∙ ap codeOf (c .before .before .before .verify .ensures .1)
 
 returns-3 : tie.Need-returns-3
-returns-3 c = c .number .ensures .0 ∙ ap verdictCode (sym (c .before .before .v2 .given .1) ∙ c .before .before .before .before .verify .ensures)
+returns-3 c = plain (c .number .ensures .0) ∙ ap (λ (z : Verdict). codeOf (verdictAnswer z)) (sym (c .before .before .v2 .given .1)) ∙ ap codeOf (c .before .before .before .before .verify .ensures .1)
 
 pub diverthrone-verify-spec : {M : Type 1} → statement M
 diverthrone-verify-spec =

@@ -3,13 +3,16 @@
 use mathlib.Core.Path.{ap, _∙_}
 use borrow.Author.Needs.{needs}
 use borrow.Author.Tests.{eq-eqb, ne-eqb}
-use Rattle.sequence.specs.Rules.{faultOf, refusalOf, checkOf}
+use Rattle.sequence.specs.Rules.{faultOf, refusalOf, checkOf, checkedOf}
 use Rattle.sequence.proofs.check.Statement.{statement}
 use Rattle.sequence.proofs.check.Tie as tie
 
+fresh-requires : tie.Need-fresh-requires
+fresh-requires c κs = search needs
+
 returns : tie.Need-returns
-unfolding checkOf
-returns c = simp (ne-eqb _ _ (c .if1 .taken))
+unfolding checkedOf checkOf
+returns c = simp (ne-eqb _ _ (c .before .if1 .taken), c .fresh .ensures)
 
 load-requires : tie.Need-load-requires
 load-requires c κs = search needs
@@ -21,10 +24,18 @@ refuse-requires : tie.Need-refuse-requires
 refuse-requires c κs = search needs
 
 returns-2 : tie.Need-returns-2
-unfolding checkOf
+unfolding checkedOf checkOf
 returns-2 c =
-    let told = c .refuse .ensures ∙ ap refusalOf (c .before .inspect .ensures ∙ ap faultOf (c .before .before .load .ensures)) in
-    simp (eq-eqb _ _ (c .before .before .before .if1 .left)) told
+    let l = c .before .before in
+    simp (eq-eqb _ _ (l .before .if1 .left), c .refuse .ensures, c .before .inspect .ensures, l .load .ensures)
 
 pub check-spec : {M : Type 1} → statement M
-check-spec = tie.close (tie.spec returns load-requires inspect-requires refuse-requires returns-2)
+check-spec =
+    tie.close
+    (tie.spec
+    fresh-requires
+    returns
+    load-requires
+    inspect-requires
+    refuse-requires
+    returns-2)

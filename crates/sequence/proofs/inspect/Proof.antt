@@ -6,29 +6,36 @@ use Rattle.sequence.specs.Rules.{faultOf}
 use Rattle.sequence.proofs.inspect.Statement.{statement}
 use Rattle.sequence.proofs.inspect.Tie as tie
 
+outside-requires : tie.Need-outside-requires
+outside-requires c κs = search needs
+
 returns : tie.Need-returns
 unfolding faultOf
-returns c = simp (lt-ltb _ _ (c .if1 .taken))
+returns c = simp (← c .before .outside .ensures, c .if1 .taken)
 
 returns-2 : tie.Need-returns-2
 unfolding faultOf
-returns-2 c = simp (le-ltb _ _ (c .before .if1 .left), lt-ltb _ _ (c .if2 .taken))
-
-returns-3 : tie.Need-returns-3
-unfolding faultOf
-returns-3 c = simp (le-ltb _ _ (c .before .before .if1 .left), le-ltb _ _ (c .before .if2 .left), lt-ltb _ _ (c .if3 .taken))
+returns-2 c = simp (← c .before .before .outside .ensures, c .before .if1 .left, lt-ltb _ _ (c .if2 .taken))
 
 first-large-requires : tie.Need-first-large-requires
 first-large-requires c κs = search needs
 
-returns-4 : tie.Need-returns-4
+returns-3 : tie.Need-returns-3
 unfolding faultOf
-returns-4 c =
+returns-3 c =
     let p = c .before .before .before .before in
-    simp (le-ltb _ _ (p .before .before .if1 .left), le-ltb _ _ (p .before .if2 .left), le-ltb _ _ (p .if3 .left), ← c .before .first-large .ensures, lt-ltb _ _ (c .if4 .taken))
+    simp (← p .before .before .outside .ensures, p .before .if1 .left, le-ltb _ _ (p .if2 .left), ← c .before .first-large .ensures, lt-ltb _ _ (c .if3 .taken))
 
 zero-from-requires : tie.Need-zero-from-requires
 zero-from-requires c κs = search needs
+
+returns-4 : tie.Need-returns-4
+unfolding faultOf
+returns-4 c =
+    let q = c .before .before .before in
+    let p = q .before .before .before .before in
+    simp
+    (← p .before .before .outside .ensures, p .before .if1 .left, le-ltb _ _ (p .if2 .left), ← q .before .first-large .ensures, le-ltb _ _ (q .if3 .left), ← c .before .zero-from .ensures, c .if4 .taken)
 
 returns-5 : tie.Need-returns-5
 unfolding faultOf
@@ -36,25 +43,17 @@ returns-5 c =
     let q = c .before .before .before in
     let p = q .before .before .before .before in
     simp
-    (le-ltb _ _ (p .before .before .if1 .left), le-ltb _ _ (p .before .if2 .left), le-ltb _ _ (p .if3 .left), ← q .before .first-large .ensures, le-ltb _ _ (q .if4 .left), ← c .before .zero-from .ensures, c .if5 .taken)
-
-returns-6 : tie.Need-returns-6
-unfolding faultOf
-returns-6 c =
-    let q = c .before .before .before in
-    let p = q .before .before .before .before in
-    simp
-    (le-ltb _ _ (p .before .before .if1 .left), le-ltb _ _ (p .before .if2 .left), le-ltb _ _ (p .if3 .left), ← q .before .first-large .ensures, le-ltb _ _ (q .if4 .left), ← c .before .zero-from .ensures, c .if5 .left)
+    (← p .before .before .outside .ensures, p .before .if1 .left, le-ltb _ _ (p .if2 .left), ← q .before .first-large .ensures, le-ltb _ _ (q .if3 .left), ← c .before .zero-from .ensures, c .if4 .left)
 
 pub inspect-spec : {M : Type 1} → statement M
 inspect-spec =
     tie.close
     (tie.spec
+    outside-requires
     returns
     returns-2
-    returns-3
     first-large-requires
-    returns-4
+    returns-3
     zero-from-requires
-    returns-5
-    returns-6)
+    returns-4
+    returns-5)

@@ -9,13 +9,14 @@ use Rattle.synthesis.specs.declared.Synthesis.{Synthesis}
 use Rattle.synthesis.specs.Synthesis.{synthesisOf}
 use Rattle.sequence.specs.Report.{profileOf}
 use Rattle.sequence.proofs.Laws.{sound-of}
+use Rattle.sequence.proofs.Answers.{profile-told}
 use Rattle.sequence.proofs.Report.{long-a, long-lengths}
 use Rattle.sequence.proofs.profile.Statement.{statement}
 use Rattle.sequence.proofs.profile.Tie as tie
 
 returns : tie.Need-returns
 unfolding profileOf
-returns c = (rw (ne-eqb _ _ (c .if1 .taken)), refl)
+returns c = let v = c .before .before .args in profile-told (v .s) (v .cells .now) (rw (ne-eqb _ _ (c .if1 .taken))) refl
 
 is-sound-requires : tie.Need-is-sound-requires
 is-sound-requires c κs = search needs
@@ -37,14 +38,15 @@ returns-2 : tie.Need-returns-2
 unfolding profileOf synthesisOf
 returns-2 c =
     let v = c .before .before .before .before .before .before in
-    let g = v .before in (
-      rw (eq-eqb _ _ (g .before .before .if1 .left), ← g .before .is-sound .ensures, g .if2 .taken),
-      c .before .before .write .ensures ∙ ap (λ (z : Synthesis). bytesOf (z .lengths)) (v .solve .ensures),
-    )
+    let g = v .before in
+    let a = g .before .before .before .before .args in
+    profile-told (a .s) (a .cells .now)
+    (rw (eq-eqb _ _ (g .before .before .if1 .left), ← g .before .is-sound .ensures, g .if2 .taken))
+    (c .before .before .write .ensures ∙ ap (λ (z : Synthesis). bytesOf (z .lengths)) (v .solve .ensures))
 
 returns-3 : tie.Need-returns-3
 unfolding profileOf
-returns-3 c = (rw (eq-eqb _ _ (c .before .before .if1 .left), ← c .before .is-sound .ensures, c .if2 .left), refl)
+returns-3 c = let v = c .before .before .before .before .args in profile-told (v .s) (v .cells .now) (rw (eq-eqb _ _ (c .before .before .if1 .left), ← c .before .is-sound .ensures, c .if2 .left)) refl
 
 pub profile-spec : {M : Type 1} → statement M
 profile-spec =

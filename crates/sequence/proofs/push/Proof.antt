@@ -8,6 +8,7 @@ use borrow.Author.Needs.{needs}
 use borrow.Author.Tests.{le-leb, lt-leb, eq-eqb, ne-eqb}
 use Rattle.sequence.specs.Rules.{pushOf}
 use Rattle.sequence.proofs.Laws.{sound-of}
+use Rattle.sequence.proofs.Answers.{push-told}
 use Rattle.sequence.proofs.push.Statement.{statement}
 use Rattle.sequence.proofs.push.Tie as tie
 
@@ -16,7 +17,7 @@ is-sound-requires c κs = search needs
 
 returns : tie.Need-returns
 unfolding pushOf
-returns c = simp (← c .before .before .is-sound .ensures, c .before .if1 .taken, eq-eqb _ _ (c .if2 .taken))
+returns c = push-told _ _ (simp (← c .before .before .is-sound .ensures, c .before .if1 .taken, eq-eqb _ _ (c .if2 .taken)))
 
 returns-2 : tie.Need-returns-2
 unfolding pushOf
@@ -24,7 +25,7 @@ returns-2 c =
     let p = c .before .before .before in
     let a = p .before .before .args in
     let h : a .s .modulus ≤ a .term = omega arith in
-    simp (← p .before .is-sound .ensures, p .if1 .taken, ne-eqb _ _ (c .before .before .if2 .left), le-leb _ _ h)
+    push-told _ _ (simp (← p .before .is-sound .ensures, p .if1 .taken, ne-eqb _ _ (c .before .before .if2 .left), le-leb _ _ h))
 
 cast-longer : tie.Need-cast-longer
 cast-longer c = search needs
@@ -48,11 +49,11 @@ returns-3 c =
     let p = c .before .before .before in
     let a = p .before .before .args in
     let h : a .term < a .s .modulus = omega arith in
-    simp (← p .before .is-sound .ensures, p .if1 .taken, ne-eqb _ _ (c .before .before .if2 .left), lt-leb _ _ h)
+    push-told _ _ (simp (← p .before .is-sound .ensures, p .if1 .taken, ne-eqb _ _ (c .before .before .if2 .left), lt-leb _ _ h))
 
 returns-4 : tie.Need-returns-4
 unfolding pushOf
-returns-4 c = simp (← c .before .is-sound .ensures, c .if1 .left)
+returns-4 c = push-told _ _ (simp (← c .before .is-sound .ensures, c .if1 .left))
 
 pub push-spec : {M : Type 1} → statement M
 push-spec =

@@ -10,17 +10,18 @@ use Rattle.synthesis.specs.Synthesis.{synthesisOf}
 use Rattle.sequence.specs.declared.Reported.the-variants.{Length}
 use Rattle.sequence.specs.Report.{reportOf}
 use Rattle.sequence.proofs.Laws.{sound-of}
+use Rattle.sequence.proofs.Answers.{report-told}
 use Rattle.sequence.proofs.Report.{long-a, long-b}
 use Rattle.sequence.proofs.register.Statement.{statement}
 use Rattle.sequence.proofs.register.Tie as tie
 
 returns : tie.Need-returns
 unfolding reportOf
-returns c = (rw (ne-eqb _ _ (c .if1 .taken)), (refl, refl))
+returns c = let v = c .before .before .before .args in report-told (v .s) (v .a .now) (v .b .now) (rw (ne-eqb _ _ (c .if1 .taken))) refl refl
 
 returns-2 : tie.Need-returns-2
 unfolding reportOf
-returns-2 c = (rw (eq-eqb _ _ (c .before .if1 .left), ne-eqb _ _ (c .if2 .taken)), (refl, refl))
+returns-2 c = let v = c .before .before .before .before .args in report-told (v .s) (v .a .now) (v .b .now) (rw (eq-eqb _ _ (c .before .if1 .left), ne-eqb _ _ (c .if2 .taken))) refl refl
 
 is-sound-requires : tie.Need-is-sound-requires
 is-sound-requires c κs = search needs
@@ -28,17 +29,11 @@ is-sound-requires c κs = search needs
 solve-requires : tie.Need-solve-requires
 solve-requires c κs = sound-of _ (sym (c .before .is-sound .ensures) ∙ c .if3 .taken)
 
-slice-aggregate-write : tie.Need-slice-aggregate-write
-slice-aggregate-write c = search needs
+write-a-requires : tie.Need-write-a-requires
+write-a-requires c κs = (long-a _ _ (c .before .before .before .before .solve .ensures), search needs)
 
-write-requires : tie.Need-write-requires
-write-requires c κs = omega (arith, long-a _ _ (c .before .before .before .before .solve .ensures))
-
-slice-aggregate-write-2 : tie.Need-slice-aggregate-write-2
-slice-aggregate-write-2 c = search needs
-
-write-requires-2 : tie.Need-write-requires-2
-write-requires-2 c κs = omega (arith, long-b _ _ (c .before .before .before .before .before .before .before .before .before .solve .ensures))
+write-b-requires : tie.Need-write-b-requires
+write-b-requires c κs = (long-b _ _ (c .before .before .before .before .before .before .before .before .before .solve .ensures), search needs)
 
 same-length : tie.Need-same-length
 same-length c = search needs
@@ -50,18 +45,18 @@ returns-3 : tie.Need-returns-3
 unfolding reportOf synthesisOf
 returns-3 c =
     let v = c .before .before .before .before .before .before .before .before .before .before .before .before in
-    let g = v .before in (
-      rw (eq-eqb _ _ (g .before .before .before .if1 .left), eq-eqb _ _ (g .before .before .if2 .left), ← g .before .is-sound .ensures, g .if3 .taken) (ap (λ (z : Synthesis). Length (z .length)) (v .solve .ensures)),
-      (
-        c .before .before .before .before .before .before .before .write .ensures ∙ ap (λ (z : Synthesis). bytesOf (z .a)) (v .solve .ensures),
-        c .before .before .write2 .ensures ∙ ap (λ (z : Synthesis). bytesOf (z .b)) (v .solve .ensures),
-      ),
-    )
+    let g = v .before in
+    let t = g .before .before .before .before .before .before .args in
+    report-told (t .s) (t .a .now) (t .b .now)
+    (rw (eq-eqb _ _ (g .before .before .before .if1 .left), eq-eqb _ _ (g .before .before .if2 .left), ← g .before .is-sound .ensures, g .if3 .taken) (ap (λ (z : Synthesis). Length (z .length)) (v .solve .ensures)))
+    (c .before .before .before .before .before .before .before .write-a .ensures ∙ ap (λ (z : Synthesis). bytesOf (z .a)) (v .solve .ensures))
+    (c .before .before .write-b .ensures ∙ ap (λ (z : Synthesis). bytesOf (z .b)) (v .solve .ensures))
 
 returns-4 : tie.Need-returns-4
 unfolding reportOf
 returns-4 c =
-    (rw (eq-eqb _ _ (c .before .before .before .if1 .left), eq-eqb _ _ (c .before .before .if2 .left), ← c .before .is-sound .ensures, c .if3 .left), (refl, refl))
+    let v = c .before .before .before .before .before .before .args in
+    report-told (v .s) (v .a .now) (v .b .now) (rw (eq-eqb _ _ (c .before .before .before .if1 .left), eq-eqb _ _ (c .before .before .if2 .left), ← c .before .is-sound .ensures, c .if3 .left)) refl refl
 
 pub register-spec : {M : Type 1} → statement M
 register-spec =
@@ -71,10 +66,8 @@ register-spec =
     returns-2
     is-sound-requires
     solve-requires
-    slice-aggregate-write
-    write-requires
-    slice-aggregate-write-2
-    write-requires-2
+    write-a-requires
+    write-b-requires
     same-length
     same-length-2
     returns-3

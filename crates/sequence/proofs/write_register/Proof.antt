@@ -14,35 +14,29 @@ use Rattle.sequence.proofs.Report.{two-parts}
 use Rattle.sequence.proofs.write_register.Statement.{statement}
 use Rattle.sequence.proofs.write_register.Tie as tie
 
-sub-write : tie.Need-sub-write
-sub-write c = search needs
+sub-write-a : tie.Need-sub-write-a
+sub-write-a c = search needs
 
-part-write-start : tie.Need-part-write-start
-part-write-start c = search needs
+part-write-a-start : tie.Need-part-write-a-start
+part-write-a-start c = search needs
 
-part-write-end : tie.Need-part-write-end
-part-write-end c = search needs
+part-write-a-end : tie.Need-part-write-a-end
+part-write-a-end c = search needs
 
-slice-aggregate-write : tie.Need-slice-aggregate-write
-slice-aggregate-write c = search needs
+write-a-requires : tie.Need-write-a-requires
+write-a-requires c κs = search needs
 
-write-requires : tie.Need-write-requires
-write-requires c κs = search needs
+sub-write-b : tie.Need-sub-write-b
+sub-write-b c = search needs
 
-sub-write-2 : tie.Need-sub-write-2
-sub-write-2 c = search needs
+part-write-b-start : tie.Need-part-write-b-start
+part-write-b-start c = search needs
 
-part-write-start-2 : tie.Need-part-write-start-2
-part-write-start-2 c = search needs
+part-write-b-end : tie.Need-part-write-b-end
+part-write-b-end c = search needs
 
-part-write-end-2 : tie.Need-part-write-end-2
-part-write-end-2 c = search needs
-
-slice-aggregate-write-2 : tie.Need-slice-aggregate-write-2
-slice-aggregate-write-2 c = search needs
-
-write-requires-2 : tie.Need-write-requires-2
-write-requires-2 c κs = search needs
+write-b-requires : tie.Need-write-b-requires
+write-b-requires c κs = search needs
 
 same-length : tie.Need-same-length
 same-length c = search needs
@@ -50,8 +44,8 @@ same-length c = search needs
 returns : tie.Need-returns
 returns c =
     let v = c .before .before .before .before .before .before .before .before .before .before .before .before .before in
-    let first = c .before .before .before .before .before .before .before .write in
-    let second = c .before .before .write2 in
+    let first = c .before .before .before .before .before .before .before .write-a in
+    let second = c .before .before .write-b in
     ap₂ (λ (x y : List ℕ). putMid aBytes bBytes (x ++ drop aBytes (v .args .out .now)) y) (first .ensures) (second .ensures)
     ∙ two-parts (bytesOf (v .args .x .a)) (bytesOf (v .args .x .b)) (v .args .out .now) (omega (arith, length-bytesOf (v .args .x .a), v .pre .0)) (v .pre .2)
 
@@ -59,15 +53,13 @@ pub write-register-spec : {M : Type 1} → statement M
 write-register-spec =
     tie.close
     (tie.spec
-    sub-write
-    part-write-start
-    part-write-end
-    slice-aggregate-write
-    write-requires
-    sub-write-2
-    part-write-start-2
-    part-write-end-2
-    slice-aggregate-write-2
-    write-requires-2
+    sub-write-a
+    part-write-a-start
+    part-write-a-end
+    write-a-requires
+    sub-write-b
+    part-write-b-start
+    part-write-b-end
+    write-b-requires
     same-length
     returns)

@@ -1,4 +1,4 @@
--- `candidate::zero_past` meets its contract: below i every place passes the test.
+-- `candidate::zero_from` meets its contract: below i every place passes the test.
 -- Assumes nothing.
 use mathlib.Core.Path.{_≡_, sym}
 use mathlib.Core.Bool.{true}
@@ -13,8 +13,8 @@ use Rattle.lists.specs.Table.{at}
 use Rattle.lists.proofs.Search.{all-true, all-false}
 use Rattle.cells.specs.Cell.{cellsFrom}
 use Rattle.cells.proofs.Laws.{at-cells}
-use Rattle.candidate.proofs.zero_past.Statement.{statement}
-use Rattle.candidate.proofs.zero_past.Tie as tie
+use Rattle.candidate.proofs.zero_from.Statement.{statement}
+use Rattle.candidate.proofs.zero_from.Tie as tie
 
 abbrev Inv-loop : tie.InvT-loop
 Inv-loop s k n i₀ i = (k ≤ i) × ((j : ℕ) → j < i → pick (ltb j k) true (eqb (at (cellsFrom s 0 n) j) 0) ≡ true)
@@ -48,8 +48,8 @@ loop-again c =
 returns-2 : tie.Need-returns-2 Inv-loop μ-loop
 returns-2 c = sym (all-true _ _ (λ j h. c .before .loop .inv .1 j (omega arith)))
 
-pub zero-past-spec : {M : Type 1} → statement M
-zero-past-spec =
+pub zero-from-spec : {M : Type 1} → statement M
+zero-from-spec =
     tie.close
     (tie.spec
     Inv-loop
