@@ -246,14 +246,18 @@ pub fn look_up(slip: &[u8], shelf: &[u8], record: &mut [u8]) -> Result<Served, R
     let sequence = check_slip(slip)?;
     demand(shelf.len() % RECORD_BYTES == 0, BAD_SHELF)?;
     let mut records = shelf.chunks_exact(RECORD_BYTES);
-    let Some(index) = records.position(|entry| entry[..SLIP_BYTES] == *slip) else {
-        record.copy_from_slice(&record_of(slip, &sequence));
-        return Ok(Served::Made);
-    };
-    let found = &shelf[index * RECORD_BYTES..][..RECORD_BYTES];
-    check_record(&sequence, found)?;
-    record.copy_from_slice(found);
-    Ok(Served::Found(index))
+    match records.position(|entry| entry[..SLIP_BYTES] == *slip) {
+        None => {
+            record.copy_from_slice(&record_of(slip, &sequence));
+            Ok(Served::Made)
+        }
+        Some(index) => {
+            let found = &shelf[index * RECORD_BYTES..][..RECORD_BYTES];
+            check_record(&sequence, found)?;
+            record.copy_from_slice(found);
+            Ok(Served::Found(index))
+        }
+    }
 }
 
 /// 24: "the record found is a bad claim (as in 6) or its test against the slip

@@ -1,11 +1,11 @@
 //! The cases of 01, the tables of 000, and the orders of the refusals.
 
 use crate::calls::*;
+use crate::checks::Group;
 use crate::join;
 use crate::limits::*;
 use crate::listing::listing;
 use crate::residue::PrimePower;
-use crate::selftest::Group;
 use crate::sequences::set_cell;
 use crate::steps::{length, run, Case, Pair};
 

@@ -3,6 +3,7 @@
 
 mod calls;
 mod cases;
+mod checks;
 mod compact;
 mod join;
 mod limits;
