@@ -22,7 +22,7 @@
  *
  * Where several apply the first of 5, 1, 2, 3, 4, 6, 23, 24 is given.
  *
- * What the caller must grant. Each pointer is not NULL and valid for its length (for length 0, any address that is not NULL).
+ * What the caller must grant. Each pointer is valid for its length; with length 0 it may be NULL or any address.
  * A written buffer overlaps no other buffer of the same call. Nothing else: any bytes, any lengths.
  * There is no allocation, no global state and no I/O, so calls from several threads need no lock. A call uses at most 37 KB of stack.
  */
@@ -40,6 +40,11 @@ extern "C" {
 #define DIVERTHRONE_A_BYTES 258
 #define DIVERTHRONE_B_BYTES 256
 #define DIVERTHRONE_RECORD_BYTES 776
+
+/* The places in a record, in bytes from its start; the query stands at 0. */
+#define DIVERTHRONE_LENGTH_PLACE 260
+#define DIVERTHRONE_A_PLACE 262
+#define DIVERTHRONE_B_PLACE 520
 
 /* Makes the record of a query: its shortest register. Value 0. */
 uint64_t diverthrone_synthesize(const uint8_t *query, size_t query_len, uint8_t *record, size_t record_len);
@@ -60,6 +65,51 @@ uint64_t diverthrone_generate(uint32_t modulus, const uint8_t *a, size_t a_len, 
 static inline unsigned diverthrone_refusal(uint64_t reply) { return (unsigned)(reply % 256); }
 
 static inline uint64_t diverthrone_value(uint64_t reply) { return reply / 256; }
+
+/* The number in a cell of two bytes: of a query, of a register, or at a place in a record. Cells count from 0. */
+static inline unsigned diverthrone_cell(const uint8_t *bytes, size_t cell) { return bytes[2 * cell] + 256u * bytes[2 * cell + 1]; }
+
+/* NULL with length 0. The archive's functions want an address for every slice. So each of their names is also a macro for a function below,
+ * which puts an address in place of such a NULL and calls the archive's. The macros have no parameters, so that NULL is legal too where a
+ * function is called by its address. After #undef a name means the archive's function itself, which takes no NULL. */
+
+/* The byte that stands in is neither read nor written. */
+static inline const uint8_t *diverthrone_in(const uint8_t *bytes, size_t len) {
+    static const uint8_t none = 0;
+    return bytes == NULL && len == 0 ? &none : bytes;
+}
+
+static inline uint8_t *diverthrone_out(uint8_t *bytes, size_t len) {
+    static uint8_t none = 0;
+    return bytes == NULL && len == 0 ? &none : bytes;
+}
+
+static inline uint64_t diverthrone_synthesize_null(const uint8_t *query, size_t query_len, uint8_t *record, size_t record_len) {
+    return diverthrone_synthesize(diverthrone_in(query, query_len), query_len, diverthrone_out(record, record_len), record_len);
+}
+
+static inline uint64_t diverthrone_look_up_null(const uint8_t *query, size_t query_len, const uint8_t *catalogue, size_t catalogue_len,
+                                                uint8_t *record, size_t record_len) {
+    return diverthrone_look_up(diverthrone_in(query, query_len), query_len, diverthrone_in(catalogue, catalogue_len), catalogue_len,
+                               diverthrone_out(record, record_len), record_len);
+}
+
+static inline uint64_t diverthrone_verify_null(const uint8_t *query, size_t query_len, const uint8_t *a, size_t a_len, const uint8_t *b,
+                                               size_t b_len, uint32_t length) {
+    return diverthrone_verify(diverthrone_in(query, query_len), query_len, diverthrone_in(a, a_len), a_len, diverthrone_in(b, b_len), b_len,
+                              length);
+}
+
+static inline uint64_t diverthrone_generate_null(uint32_t modulus, const uint8_t *a, size_t a_len, const uint8_t *b, size_t b_len,
+                                                 uint32_t length, uint8_t *cells, size_t cells_len) {
+    return diverthrone_generate(modulus, diverthrone_in(a, a_len), a_len, diverthrone_in(b, b_len), b_len, length,
+                                diverthrone_out(cells, cells_len), cells_len);
+}
+
+#define diverthrone_synthesize diverthrone_synthesize_null
+#define diverthrone_look_up diverthrone_look_up_null
+#define diverthrone_verify diverthrone_verify_null
+#define diverthrone_generate diverthrone_generate_null
 
 #ifdef __cplusplus
 }

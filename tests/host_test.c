@@ -1,11 +1,12 @@
-/* The C interface from C: every refusal, every verdict, found and made, buffers of every wrong length, and that a refusal changes no byte.
- * Expected values are the scope's cases; guard bytes stand around every buffer. */
+/* The C interface from C: every refusal, every verdict, found and made, buffers of every wrong length, NULL for every slice, and that a
+ * refusal changes no byte. Expected values are the scope's cases; guard bytes stand around every buffer. It is built as C++ too. */
 #include "diverthrone.h"
 
 #include <stdio.h>
 #include <string.h>
 
 enum { GUARD = 16, ROOM = 4096 };
+enum { QUERY = DIVERTHRONE_QUERY_BYTES, RECORD = DIVERTHRONE_RECORD_BYTES };
 
 static int checks, failures;
 
@@ -17,19 +18,28 @@ static void check(int ok, const char *what) {
     }
 }
 
-/* A buffer between guard bytes; `start` is where it begins. */
+/* A buffer between guard bytes; `start` is where it begins, `given` what a call is handed for it. */
 struct lent {
     uint8_t bytes[GUARD + ROOM + GUARD];
     uint8_t before[GUARD + ROOM + GUARD];
     size_t len;
+    int null;
 };
 
 static uint8_t *start(struct lent *b) { return b->bytes + GUARD; }
+
+static uint8_t *given(struct lent *b) { return b->null ? NULL : start(b); }
 
 static void lend(struct lent *b, size_t len, uint8_t fill) {
     memset(b->bytes, 0xA5, sizeof b->bytes);
     memset(start(b), fill, len);
     b->len = len;
+    b->null = 0;
+}
+
+static void lend_null(struct lent *b) {
+    lend(b, 0, 0);
+    b->null = 1;
 }
 
 static void keep(struct lent *b) { memcpy(b->before, b->bytes, sizeof b->bytes); }
@@ -47,7 +57,11 @@ static void put(uint8_t *s, size_t cell, unsigned v) {
     s[2 * cell + 1] = (uint8_t)(v / 256);
 }
 
-static unsigned get(const uint8_t *s, size_t cell) { return s[2 * cell] + 256u * s[2 * cell + 1]; }
+static unsigned length_in(struct lent *r) { return diverthrone_cell(start(r) + DIVERTHRONE_LENGTH_PLACE, 0); }
+
+static unsigned a_in(struct lent *r, size_t i) { return diverthrone_cell(start(r) + DIVERTHRONE_A_PLACE, i); }
+
+static unsigned b_in(struct lent *r, size_t i) { return diverthrone_cell(start(r) + DIVERTHRONE_B_PLACE, i); }
 
 static void put_all(struct lent *b, size_t cells, const unsigned *v, size_t n) {
     lend(b, 2 * cells, 0);
@@ -55,7 +69,7 @@ static void put_all(struct lent *b, size_t cells, const unsigned *v, size_t n) {
 }
 
 static void make_query(struct lent *q, unsigned m, const unsigned *terms, unsigned n) {
-    lend(q, DIVERTHRONE_QUERY_BYTES, 0);
+    lend(q, QUERY, 0);
     put(start(q), 0, m);
     put(start(q), 1, n);
     for (unsigned i = 0; i < n && i < 128; i++) put(start(q), 2 + i, terms[i]);
@@ -63,7 +77,7 @@ static void make_query(struct lent *q, unsigned m, const unsigned *terms, unsign
 
 static uint64_t synthesize(struct lent *q, struct lent *r) {
     keep(q), keep(r);
-    uint64_t reply = diverthrone_synthesize(start(q), q->len, start(r), r->len);
+    uint64_t reply = diverthrone_synthesize(given(q), q->len, given(r), r->len);
     check(unchanged(q), "synthesize leaves the query");
     check(guarded(r), "synthesize keeps to the record");
     return reply;
@@ -71,7 +85,7 @@ static uint64_t synthesize(struct lent *q, struct lent *r) {
 
 static uint64_t look_up(struct lent *q, struct lent *c, struct lent *r) {
     keep(q), keep(c), keep(r);
-    uint64_t reply = diverthrone_look_up(start(q), q->len, start(c), c->len, start(r), r->len);
+    uint64_t reply = diverthrone_look_up(given(q), q->len, given(c), c->len, given(r), r->len);
     check(unchanged(q) && unchanged(c), "look_up leaves the query and the catalogue");
     check(guarded(r), "look_up keeps to the record");
     return reply;
@@ -79,14 +93,14 @@ static uint64_t look_up(struct lent *q, struct lent *c, struct lent *r) {
 
 static uint64_t verify(struct lent *q, struct lent *a, struct lent *b, uint32_t l) {
     keep(q), keep(a), keep(b);
-    uint64_t reply = diverthrone_verify(start(q), q->len, start(a), a->len, start(b), b->len, l);
+    uint64_t reply = diverthrone_verify(given(q), q->len, given(a), a->len, given(b), b->len, l);
     check(unchanged(q) && unchanged(a) && unchanged(b), "verify leaves what it is lent");
     return reply;
 }
 
 static uint64_t generate(uint32_t m, struct lent *a, struct lent *b, uint32_t l, struct lent *c) {
     keep(a), keep(b), keep(c);
-    uint64_t reply = diverthrone_generate(m, start(a), a->len, start(b), b->len, l, start(c), c->len);
+    uint64_t reply = diverthrone_generate(m, given(a), a->len, given(b), b->len, l, given(c), c->len);
     check(unchanged(a) && unchanged(b), "generate leaves the candidate");
     check(guarded(c), "generate keeps to the cells");
     return reply;
@@ -103,34 +117,25 @@ static void refused(uint64_t reply, unsigned number, const struct lent *out, con
 static void records(void) {
     const unsigned fib[] = {1, 1, 2, 3, 5, 1}, want_a[] = {1, 4, 7, 1}, want_b[] = {6, 0, 1};
     make_query(&q, 9, nine, 5);
-    lend(&r, DIVERTHRONE_RECORD_BYTES, 0x5A);
+    lend(&r, RECORD, 0x5A);
     check(synthesize(&q, &r) == 0, "case 3 is made");
-    check(memcmp(start(&r), start(&q), 260) == 0, "the record starts with the query");
-    check(get(start(&r), 130) == 3, "case 3 has length 3");
-    for (size_t i = 0; i < 129; i++) check(get(start(&r), 131 + i) == (i < 4 ? want_a[i] : 0), "case 3: a");
-    for (size_t i = 0; i < 128; i++) check(get(start(&r), 260 + i) == (i < 3 ? want_b[i] : 0), "case 3: b");
+    check(memcmp(start(&r), start(&q), QUERY) == 0, "the record starts with the query");
+    check(length_in(&r) == 3, "case 3 has length 3");
+    for (size_t i = 0; i < 129; i++) check(a_in(&r, i) == (i < 4 ? want_a[i] : 0), "case 3: a");
+    for (size_t i = 0; i < 128; i++) check(b_in(&r, i) == (i < 3 ? want_b[i] : 0), "case 3: b");
     make_query(&q, 2, NULL, 0);
-    check(synthesize(&q, &r) == 0 && get(start(&r), 130) == 0 && get(start(&r), 131) == 1, "case 1");
+    check(synthesize(&q, &r) == 0 && length_in(&r) == 0 && a_in(&r, 0) == 1, "case 1");
     make_query(&q, 7, fib, 6);
-    check(synthesize(&q, &r) == 0 && get(start(&r), 130) == 2 && get(start(&r), 132) == 6, "case 9");
+    check(synthesize(&q, &r) == 0 && length_in(&r) == 2 && a_in(&r, 1) == 6, "case 9");
 }
 
 static void query_refusals(void) {
-    unsigned many[128];
-    for (size_t i = 0; i < 128; i++) many[i] = 4094;
-    lend(&r, DIVERTHRONE_RECORD_BYTES, 0x5A);
+    lend(&r, RECORD, 0x5A);
     static const unsigned bad[] = {0, 1, 4096, 65535};
     for (size_t i = 0; i < 4; i++) {
         make_query(&q, bad[i], nine, 5);
         refused(synthesize(&q, &r), 1, &r, "modulus outside the limits");
     }
-    make_query(&q, 4095, many, 128);
-    check(synthesize(&q, &r) == 0, "128 terms modulo 4,095 are taken");
-    lend(&r, DIVERTHRONE_RECORD_BYTES, 0x5A);
-    put(start(&q), 1, 129);
-    refused(synthesize(&q, &r), 2, &r, "129 terms");
-    put(start(&q), 1, 65535);
-    refused(synthesize(&q, &r), 2, &r, "65,535 terms");
     make_query(&q, 6, nine, 5);
     refused(synthesize(&q, &r), 3, &r, "a term equal to the modulus");
     make_query(&q, 9, nine, 5);
@@ -142,7 +147,7 @@ static void query_refusals(void) {
         q.len = lens[i];
         refused(synthesize(&q, &r), 5, &r, "a query of another length");
     }
-    q.len = 260;
+    q.len = QUERY;
     static const size_t outs[] = {0, 775, 777};
     for (size_t i = 0; i < 3; i++) {
         lend(&r, outs[i], 0x5A);
@@ -150,33 +155,53 @@ static void query_refusals(void) {
     }
 }
 
+/* Case 15 for queries: 128 terms are accepted, and a count of 129 is refused by each call that takes a query. */
+static void case_15(void) {
+    const unsigned same_a[] = {1, 4094}, same_b[] = {4094};
+    unsigned many[128];
+    for (size_t i = 0; i < 128; i++) many[i] = 4094;
+    make_query(&q, 4095, many, 128);
+    lend(&c, 0, 0), lend(&r, RECORD, 0x5A);
+    put_all(&a, 129, same_a, 2), put_all(&b, 128, same_b, 1);
+    check(synthesize(&q, &r) == 0 && length_in(&r) == 1, "case 15: synthesize accepts 128 terms");
+    check(look_up(&q, &c, &r) == 0, "case 15: look_up accepts 128 terms");
+    check(verify(&q, &a, &b, 1) == 0, "case 15: verify accepts 128 terms");
+    lend(&r, RECORD, 0x5A);
+    put(start(&q), 1, 129);
+    refused(synthesize(&q, &r), 2, &r, "case 15: synthesize refuses count 129 with 2");
+    refused(look_up(&q, &c, &r), 2, &r, "case 15: look_up refuses count 129 with 2");
+    refused(verify(&q, &a, &b, 1), 2, NULL, "case 15: verify refuses count 129 with 2");
+    put(start(&q), 1, 65535);
+    refused(synthesize(&q, &r), 2, &r, "65,535 terms");
+}
+
 /* A catalogue of three: 9 with other terms, case 3 modulo 27, case 3. */
 static void make_catalogue(void) {
     static const unsigned other[] = {6, 3, 1, 5, 7};
     struct lent one;
-    lend(&c, 3 * DIVERTHRONE_RECORD_BYTES, 0);
+    lend(&c, 3 * RECORD, 0);
     for (size_t i = 0; i < 3; i++) {
         make_query(&q, i == 1 ? 27 : 9, i == 0 ? other : nine, 5);
-        lend(&one, DIVERTHRONE_RECORD_BYTES, 0);
+        lend(&one, RECORD, 0);
         check(synthesize(&q, &one) == 0, "a record for the catalogue");
-        memcpy(start(&c) + i * DIVERTHRONE_RECORD_BYTES, start(&one), DIVERTHRONE_RECORD_BYTES);
+        memcpy(start(&c) + i * RECORD, start(&one), RECORD);
     }
 }
 
 static void catalogues(void) {
     make_catalogue();
     make_query(&q, 9, nine, 5);
-    lend(&r, DIVERTHRONE_RECORD_BYTES, 0x5A);
+    lend(&r, RECORD, 0x5A);
     uint64_t reply = look_up(&q, &c, &r);
     check(diverthrone_refusal(reply) == 0 && diverthrone_value(reply) == 3, "found at place 2, not the entry modulo 27");
-    check(memcmp(start(&r), start(&c) + 2 * 776, 776) == 0, "the record found goes out");
+    check(memcmp(start(&r), start(&c) + 2 * RECORD, RECORD) == 0, "the record found goes out");
     make_query(&q, 11, nine, 5);
-    check(look_up(&q, &c, &r) == 0 && get(start(&r), 0) == 11, "not found, made");
+    check(look_up(&q, &c, &r) == 0 && diverthrone_cell(start(&r), 0) == 11, "not found, made");
     c.len = 0;
     make_query(&q, 9, nine, 5);
     check(look_up(&q, &c, &r) == 0, "an empty catalogue");
-    c.len = 3 * 776;
-    lend(&r, DIVERTHRONE_RECORD_BYTES, 0x5A);
+    c.len = 3 * RECORD;
+    lend(&r, RECORD, 0x5A);
     c.len = 775;
     refused(look_up(&q, &c, &r), 23, &r, "a catalogue of 775 bytes");
     make_query(&q, 1, nine, 0);
@@ -185,10 +210,13 @@ static void catalogues(void) {
     refused(look_up(&q, &c, &r), 5, &r, "5 comes before 1");
     make_catalogue();
     make_query(&q, 9, nine, 5);
-    put(start(&c) + 2 * 776, 131 + 3, 2);
+    put(start(&c) + 2 * RECORD + DIVERTHRONE_A_PLACE, 3, 2);
     refused(look_up(&q, &c, &r), 24, &r, "a record that fails its test");
-    put(start(&c) + 2 * 776, 131, 2);
+    put(start(&c) + 2 * RECORD + DIVERTHRONE_A_PLACE, 0, 2);
     refused(look_up(&q, &c, &r), 24, &r, "a record that is malformed");
+    make_catalogue();
+    put(start(&c) + 2 * RECORD + DIVERTHRONE_B_PLACE, 3, 1);
+    refused(look_up(&q, &c, &r), 24, &r, "a record in which only b is nonzero past l - 1");
     lend(&r, 775, 0x5A);
     refused(look_up(&q, &c, &r), 5, &r, "a record of another length");
 }
@@ -205,7 +233,6 @@ static void verdicts(void) {
     check(diverthrone_refusal(reply) == 0 && diverthrone_value(reply) == 4, "case 11: no, at place 3");
     put_all(&a, 129, good, 4);
     refused(verify(&q, &a, &b, 129), 6, NULL, "a length above 128");
-    refused(verify(&q, &a, &b, 2), 6, NULL, "a coefficient past the length");
     put(start(&a), 0, 2);
     refused(verify(&q, &a, &b, 3), 6, NULL, "a_0 is 2");
     put(start(&a), 0, 1);
@@ -224,17 +251,39 @@ static void verdicts(void) {
     check(verify(&q, &a, &b, 3) == 0, "no terms: yes");
 }
 
+static void one_past(struct lent *where, size_t cell, const char *what) {
+    put(start(where), cell, 1);
+    lend(&cells, 10, 0x5A);
+    refused(verify(&q, &a, &b, 3), 6, NULL, what);
+    refused(generate(9, &a, &b, 3, &cells), 6, &cells, what);
+    put(start(where), cell, 0);
+}
+
+/* One coefficient past the length, in a candidate that is well formed but for it. */
+static void past_the_length(void) {
+    const unsigned good[] = {1, 4, 7, 1}, start_cells[] = {6, 0, 1};
+    make_query(&q, 9, nine, 5);
+    put_all(&a, 129, good, 4), put_all(&b, 128, start_cells, 3);
+    one_past(&a, 4, "only a is nonzero past l, next to it");
+    one_past(&a, 128, "only a is nonzero past l, in the last cell");
+    one_past(&b, 3, "only b is nonzero past l - 1, next to it");
+    one_past(&b, 127, "only b is nonzero past l - 1, in the last cell");
+    check(verify(&q, &a, &b, 3) == 0, "nothing past the length");
+    put_all(&a, 129, good, 1), put_all(&b, 128, good, 1);
+    refused(verify(&q, &a, &b, 0), 6, NULL, "only b_0 is nonzero, with length 0");
+}
+
 static void runs(void) {
     const unsigned fib_a[] = {1, 6, 6}, fib_b[] = {1, 0}, want[] = {1, 1, 2, 3, 5, 1};
     put_all(&a, 129, fib_a, 3);
     put_all(&b, 128, fib_b, 2);
     lend(&cells, 12, 0x5A);
     check(generate(7, &a, &b, 2, &cells) == 0, "case 10 runs");
-    for (size_t i = 0; i < 6; i++) check(get(start(&cells), i) == want[i], "case 10: cells");
+    for (size_t i = 0; i < 6; i++) check(diverthrone_cell(start(&cells), i) == want[i], "case 10: cells");
     lend(&cells, 0, 0);
     check(generate(7, &a, &b, 2, &cells) == 0, "no cells are legal");
     lend(&cells, 256, 0x5A);
-    check(generate(7, &a, &b, 2, &cells) == 0 && get(start(&cells), 127) < 7, "128 cells");
+    check(generate(7, &a, &b, 2, &cells) == 0 && diverthrone_cell(start(&cells), 127) < 7, "128 cells");
     lend(&cells, 258, 0x5A);
     refused(generate(7, &a, &b, 2, &cells), 2, &cells, "129 cells");
     refused(generate(1, &a, &b, 2, &cells), 1, &cells, "1 comes before 2");
@@ -250,12 +299,39 @@ static void runs(void) {
     refused(generate(7, &a, &b, 2, &cells), 5, &cells, "a of another length");
 }
 
+/* NULL with length 0 in each place of each call. */
+static void nothing_lent(void) {
+    const unsigned fib_a[] = {1, 6, 6}, fib_b[] = {1, 0};
+    struct lent null;
+    lend_null(&null);
+    make_query(&q, 9, nine, 5);
+    lend(&c, 0, 0), lend(&r, RECORD, 0x5A);
+    refused(synthesize(&null, &r), 5, &r, "synthesize: NULL for the query");
+    refused(synthesize(&q, &null), 5, &null, "synthesize: NULL for the record");
+    refused(look_up(&null, &c, &r), 5, &r, "look_up: NULL for the query");
+    refused(look_up(&q, &c, &null), 5, &null, "look_up: NULL for the record");
+    check(look_up(&q, &null, &r) == 0 && length_in(&r) == 3, "look_up: NULL for the catalogue is the empty one");
+    put_all(&a, 129, fib_a, 3), put_all(&b, 128, fib_b, 2);
+    refused(verify(&null, &a, &b, 2), 5, NULL, "verify: NULL for the query");
+    refused(verify(&q, &null, &b, 2), 5, NULL, "verify: NULL for a");
+    refused(verify(&q, &a, &null, 2), 5, NULL, "verify: NULL for b");
+    lend(&cells, 12, 0x5A);
+    refused(generate(7, &null, &b, 2, &cells), 5, &cells, "generate: NULL for a");
+    refused(generate(7, &a, &null, 2, &cells), 5, &cells, "generate: NULL for b");
+    check(generate(7, &a, &b, 2, &null) == 0, "generate: NULL for the cells runs none");
+    refused(generate(1, &a, &b, 2, &null), 1, &null, "generate: NULL for the cells, modulus 1");
+    refused(generate(7, &a, &b, 1, &null), 6, &null, "generate: NULL for the cells, a coefficient past the length");
+}
+
 int main(void) {
     records();
     query_refusals();
+    case_15();
     catalogues();
     verdicts();
+    past_the_length();
     runs();
+    nothing_lent();
     printf("host test: %d checks, %d failed\n", checks, failures);
     return failures != 0;
 }

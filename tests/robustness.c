@@ -2,7 +2,8 @@
  *
  *   robustness --back, robustness --front
  *       replays the script on standard input and writes the same text as the second program for verify, generate, synthesize and look_up;
- *       the other operations are passed over. --back puts the end of each buffer at the forbidden page, --front its start.
+ *       the other operations are passed over. --back puts the end of each buffer at the forbidden page, --front its start;
+ *       every other call hands over NULL for its empty buffers.
  *   robustness --expand SEED COPIES
  *       writes the script on standard input again, with so many altered copies behind each of these calls.
  *
@@ -20,7 +21,7 @@
 enum { VERIFY = 4, GENERATE = 5, SYNTHESIZE = 6, LOOK_UP = 7, FORGE = 8 };
 enum { HEADER = 16, WIDEST = 65535, PAINT = 0xC3, NEAR = 1024 };
 enum { QUERY = DIVERTHRONE_QUERY_BYTES, A = DIVERTHRONE_A_BYTES, B = DIVERTHRONE_B_BYTES, RECORD = DIVERTHRONE_RECORD_BYTES };
-enum { LENGTH_AT = 260, A_AT = 262, B_AT = 520 };
+enum { LENGTH_AT = DIVERTHRONE_LENGTH_PLACE, A_AT = DIVERTHRONE_A_PLACE, B_AT = DIVERTHRONE_B_PLACE };
 
 static const char *const names[] = {"open", "push", "register", "profile", "verify", "generate", "synthesize", "look_up", "forge"};
 static const size_t input_counts[] = {0, 0, 0, 0, 3, 2, 1, 2, 1};
@@ -178,10 +179,11 @@ static void lend(const struct call *c, uint8_t *p[3]) {
 }
 
 static void make(const struct call *c) {
-    uint8_t *p[3] = {NULL, NULL, NULL};
+    uint8_t *p[3] = {NULL, NULL, NULL}, *given[3];
     lend(c, p);
     calls_made++;
-    print_reply(c->op, enter(c, p));
+    for (size_t i = 0; i < 3; i++) given[i] = c->len[i] == 0 && calls_made % 2 == 0 ? NULL : p[i];
+    print_reply(c->op, enter(c, given));
     for (size_t i = 0; i < buffers(c); i++) {
         if (i >= inputs(c))
             printf(" %08x", (unsigned)hash(p[i], c->len[i]));

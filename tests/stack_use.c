@@ -30,8 +30,8 @@ static void put(uint8_t *s, size_t cell, uint32_t v) {
 }
 
 static uint64_t enter(int kind) {
-    const uint8_t *a = shelf + 262, *b = shelf + 520;
-    uint32_t l = shelf[260] + 256u * shelf[261];
+    const uint8_t *a = shelf + DIVERTHRONE_A_PLACE, *b = shelf + DIVERTHRONE_B_PLACE;
+    uint32_t l = diverthrone_cell(shelf + DIVERTHRONE_LENGTH_PLACE, 0);
     switch (kind) {
     case VERIFY: return diverthrone_verify(query, sizeof query, a, DIVERTHRONE_A_BYTES, b, DIVERTHRONE_B_BYTES, l);
     case GENERATE: return diverthrone_generate(modulus, a, DIVERTHRONE_A_BYTES, b, DIVERTHRONE_B_BYTES, l, cells, sizeof cells);

@@ -1,0 +1,75 @@
+/* What the header hands on to the archive: an address in place of NULL with length 0, all else as it came, for every slice of every
+ * function. stand_in.c takes the archive's place; with it there are two translation units that include the header. */
+#include "diverthrone.h"
+
+#include <stdio.h>
+#include <string.h>
+
+/* stand_in.c: what the last call was handed. */
+extern const uint8_t *seen[3];
+extern size_t seen_len[3];
+extern uint32_t seen_number[2];
+
+enum { LENGTH = 70000, MODULUS = 80000 };
+
+static uint64_t synthesize(uint8_t *const p[3], const size_t n[3]) { return diverthrone_synthesize(p[0], n[0], p[1], n[1]); }
+
+static uint64_t look_up(uint8_t *const p[3], const size_t n[3]) { return diverthrone_look_up(p[0], n[0], p[1], n[1], p[2], n[2]); }
+
+static uint64_t verify(uint8_t *const p[3], const size_t n[3]) { return diverthrone_verify(p[0], n[0], p[1], n[1], p[2], n[2], LENGTH); }
+
+static uint64_t generate(uint8_t *const p[3], const size_t n[3]) {
+    return diverthrone_generate(MODULUS, p[0], n[0], p[1], n[1], LENGTH, p[2], n[2]);
+}
+
+/* By its address, as from a host's table of functions. */
+static uint64_t (*const address)(const uint8_t *, size_t, const uint8_t *, size_t, uint8_t *, size_t) = diverthrone_look_up;
+
+static uint64_t by_address(uint8_t *const p[3], const size_t n[3]) { return address(p[0], n[0], p[1], n[1], p[2], n[2]); }
+
+struct call {
+    const char *name;
+    uint64_t (*make)(uint8_t *const p[3], const size_t n[3]);
+    size_t slices;
+    uint64_t reply;
+    uint32_t length, modulus;
+};
+
+static const struct call calls[] = {{"synthesize", synthesize, 2, 1, 0, 0},
+                                    {"look_up", look_up, 3, 2, 0, 0},
+                                    {"verify", verify, 3, 3, LENGTH, 0},
+                                    {"generate", generate, 3, 4, LENGTH, MODULUS},
+                                    {"look_up by its address", by_address, 3, 2, 0, 0}};
+
+static int checks, failures;
+
+static void check(int ok, const char *name, size_t slice) {
+    checks++;
+    if (ok) return;
+    failures++;
+    printf("FAILED: %s, slice %u\n", name, (unsigned)slice);
+}
+
+/* One slice is NULL or not, of length 0 or 5; the others are neither NULL nor empty. */
+static void one_slice(const struct call *c, size_t slice, int null, size_t len) {
+    static uint8_t bytes[3][5];
+    uint8_t *p[3] = {bytes[0], bytes[1], bytes[2]};
+    size_t n[3] = {5, 5, 5};
+    if (null) p[slice] = NULL;
+    n[slice] = len;
+    memset(seen, 0, sizeof seen);
+    memset(seen_number, 0, sizeof seen_number);
+    check(c->make(p, n) == c->reply && seen_number[0] == c->length && seen_number[1] == c->modulus, c->name, slice);
+    for (size_t i = 0; i < c->slices; i++) {
+        int put_in = i == slice && null && len == 0;
+        check((put_in ? seen[i] != NULL : seen[i] == p[i]) && seen_len[i] == n[i], c->name, i);
+    }
+}
+
+int main(void) {
+    for (size_t i = 0; i < sizeof calls / sizeof *calls; i++)
+        for (size_t slice = 0; slice < calls[i].slices; slice++)
+            for (int kind = 0; kind < 4; kind++) one_slice(&calls[i], slice, kind % 2, kind < 2 ? 0 : 5);
+    printf("header test: %d checks, %d failed\n", checks, failures);
+    return failures != 0;
+}

@@ -1,0 +1,38 @@
+/* Stand-ins for the archive's functions, for header_test.c: each keeps what it is handed and replies a number of its own. */
+#include "diverthrone.h"
+
+#undef diverthrone_synthesize
+#undef diverthrone_look_up
+#undef diverthrone_verify
+#undef diverthrone_generate
+
+const uint8_t *seen[3];
+size_t seen_len[3];
+uint32_t seen_number[2];
+
+static void see(size_t i, const uint8_t *bytes, size_t len) { seen[i] = bytes, seen_len[i] = len; }
+
+uint64_t diverthrone_synthesize(const uint8_t *query, size_t query_len, uint8_t *record, size_t record_len) {
+    see(0, query, query_len), see(1, record, record_len);
+    return 1;
+}
+
+uint64_t diverthrone_look_up(const uint8_t *query, size_t query_len, const uint8_t *catalogue, size_t catalogue_len, uint8_t *record,
+                             size_t record_len) {
+    see(0, query, query_len), see(1, catalogue, catalogue_len), see(2, record, record_len);
+    return 2;
+}
+
+uint64_t diverthrone_verify(const uint8_t *query, size_t query_len, const uint8_t *a, size_t a_len, const uint8_t *b, size_t b_len,
+                            uint32_t length) {
+    see(0, query, query_len), see(1, a, a_len), see(2, b, b_len);
+    seen_number[0] = length;
+    return 3;
+}
+
+uint64_t diverthrone_generate(uint32_t modulus, const uint8_t *a, size_t a_len, const uint8_t *b, size_t b_len, uint32_t length,
+                              uint8_t *cells, size_t cells_len) {
+    see(0, a, a_len), see(1, b, b_len), see(2, cells, cells_len);
+    seen_number[0] = length, seen_number[1] = modulus;
+    return 4;
+}
