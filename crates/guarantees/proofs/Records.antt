@@ -2,7 +2,7 @@
 -- Assumes nothing.
 use mathlib.Core.Path.{_≡_, refl, sym, ap, ap₂, _∙_, subst, fun-ext}
 use mathlib.Core.Logic.{_⊎_, inl, inr}
-use mathlib.Core.List.{List, []}
+use mathlib.Core.List.{List, [], map}
 use mathlib.Core.Bool.{Bool, true, false}
 use Prim.Native.Nat.{ℕ, _+_, _*_, _-_, _%_, _≤_, _<_}
 use native.Mathlib.Nat.{mod-eq-of-lt, le-refl, not-suc-le-zero}
@@ -38,9 +38,9 @@ use Rattle.catalogue.specs.declared.LookedUp.{LookedUp}
 use Rattle.catalogue.specs.declared.LookedUp.the-variants.{Found, Made}
 use Rattle.catalogue.specs.Rules.{recordBytes, recordOf, synthesizeOf, recordAt, queryAt, records, firstMatch, matchOf, passes, serveOf, answerOf, lookUpOf, servedIn}
 use Rattle.catalogue.proofs.Places.{length-a, length-b, layout-query, layout-a, layout-b, layout-length-cell}
-use Rattle.guarantees.specs.Calls.{Call, afterAll, taken}
+use Rattle.guarantees.specs.Calls.{Call, push, afterAll, taken}
 use Rattle.guarantees.specs.Claims.{MadeRecord, MadeCatalogue, termsOf, AgreesWith, MadeServedReported}
-use Rattle.guarantees.proofs.State.{holding, padded, padded-at, Good, state}
+use Rattle.guarantees.proofs.State.{holding, padded, padded-at, Good, state, all-pushed}
 use Rattle.guarantees.proofs.Demand.{cell-of, reported, same-register}
 
 -- the numbers that were written are read back
@@ -120,6 +120,9 @@ module _ (query : List ℕ) (fine : checkOf query ≡ Done) where
 
   small : registerOf (sequenceOf query) .length < 65536
   small = omega (arith, short)
+
+  pub terms-pushed : taken (cellAt query 0) (map push (termsOf query)) ≡ termsOf query
+  terms-pushed = all-pushed (cellAt query 0) least most (termsOf query) good
 
   -- ---- the record agrees with the register
 
@@ -278,6 +281,7 @@ pub same : MadeServedReported
 unfolding MadeServedReported
 same query catalogue out fine made long =
     record {
+      pushed = terms-pushed query fine;
       made = making query out fine long;
       served = o .0;
       record-made = λ calls a b h ha hb.

@@ -1,7 +1,7 @@
 -- The sequence after a list of calls holds the terms taken, and nothing else.
 -- Assumes nothing.
 use mathlib.Core.Path.{_≡_, refl, sym, ap, _∙_, subst}
-use mathlib.Core.List.{List, [], _∷_, _++_, append-assoc}
+use mathlib.Core.List.{List, [], _∷_, _++_, map, append-assoc, append-nil}
 use mathlib.Core.Logic.{⊎-elim}
 use mathlib.Core.Bool.{true}
 use Prim.Native.Nat.{ℕ, suc, _+_, _-_, _≤_, _<_}
@@ -136,3 +136,26 @@ module _ (m : ℕ) (least : 2 ≤ m) (most : m ≤ maxModulus) where
 
   pub good : (cs : List Call) → Good m (taken m cs)
   good cs = after-from cs [] good-none .1
+
+  -- ---- pushing terms one by one
+
+  pushes-take : (ts us : List ℕ) → Good m (ts ++ us) → takenFrom m ts (map push us) ≡ ts ++ us
+  unfolding takenFrom
+  pushes-take ts [] g = sym (append-nil ts)
+  pushes-take ts (t ∷ us) g =
+      ap (λ (z : List ℕ). takenFrom m z (map push us)) joins
+      ∙ pushes-take (ts ++ (t ∷ [])) us (subst (Good m) (sym (append-assoc ts (t ∷ []) us)) g) ∙ append-assoc ts (t ∷ []) us
+    where
+      long : length (ts ++ (t ∷ us)) ≡ length ts + suc (length us)
+      long = length-append ts (t ∷ us)
+
+      joins : takes m ts (push t) ≡ ts ++ (t ∷ [])
+      joins =
+          rw (
+            lt-ltb t m (subst (λ (z : ℕ). z < m) (getD-append-seam ts t us 0) (g .below (length ts) (omega (arith, long)))),
+            lt-ltb (length ts) maxTerms (omega (arith, long, g .size)),
+          )
+
+  -- they are taken, all of them
+  pub all-pushed : (ts : List ℕ) → Good m ts → taken m (map push ts) ≡ ts
+  all-pushed ts g = pushes-take [] ts g

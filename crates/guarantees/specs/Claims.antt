@@ -2,7 +2,7 @@
 -- Assumes nothing.
 use mathlib.Core.Path.{_≡_}
 use mathlib.Core.Logic.{_⊎_}
-use mathlib.Core.List.{List}
+use mathlib.Core.List.{List, map}
 use Prim.Native.Nat.{ℕ, zero, _%_, _≤_, _<_}
 use lib.ListN.{length, take, drop}
 use Rattle.lists.specs.Table.{at, tabulate}
@@ -19,7 +19,7 @@ use Rattle.sequence.specs.Rules.{openOf, sequenceOf, checkOf}
 use Rattle.sequence.specs.Report.{reportOf, aBuffer, bBuffer, written, profileOf, profileBuffer, filled}
 use Rattle.catalogue.specs.declared.LookedUp.the-variants.{Found, Made}
 use Rattle.catalogue.specs.Rules.{recordBytes, aPlace, bPlace, lengthCell, recordOf, synthesizeOf, recordAt, records, lookUpOf, servedIn}
-use Rattle.guarantees.specs.Calls.{Call, afterAll, taken}
+use Rattle.guarantees.specs.Calls.{Call, push, afterAll, taken}
 
 -- What the register and the profile reply and write, lent buffers a, b and cells, for a sequence that should hold the terms ts modulo m.
 pub record Shows (m : ℕ) (ts : List ℕ) (s : Sequence) (a b cells : List ℕ) : Type 0 where
@@ -78,6 +78,8 @@ pub record AgreesWith (m : ℕ) (calls : List Call) (a b entry : List ℕ) : Typ
 -- For a query that meets no refusal of its own and a catalogue made by this software: making and serving are not refused, and the
 -- record made, the record served and the register after any calls that take the query's terms are the same.
 pub record Same (query catalogue out : List ℕ) : Type 0 where
+  -- there are such calls: pushing the terms one by one
+  pub pushed : taken (cellAt query 0) (map push (termsOf query)) ≡ termsOf query
   pub made : synthesizeOf query out ≡ Done
   pub served : ((i : ℕ) × (lookUpOf query catalogue out ≡ Found i)) ⊎ (lookUpOf query catalogue out ≡ Made)
   pub record-made :
