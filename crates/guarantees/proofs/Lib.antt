@@ -3,3 +3,4 @@ pub mod Demand
 pub mod Records
 pub mod Cases
 pub mod Driving
+pub mod Testing

@@ -53,7 +53,7 @@ module _ (query : List ℕ) (fine : checkOf query ≡ Done) where
   s : Sequence
   s = sequenceOf query
 
-  size : length query ≡ queryBytes
+  pub size : length query ≡ queryBytes
   size = check-done query fine .0
 
   sound : IsSound s
@@ -70,7 +70,7 @@ module _ (query : List ℕ) (fine : checkOf query ≡ Done) where
   unfolding sequenceOf
   long = length-tabulate maxTerms _
 
-  terms-long : length (termsOf query) ≡ sequenceOf query .count
+  pub terms-long : length (termsOf query) ≡ sequenceOf query .count
   unfolding s sequenceOf
   terms-long = length-take-le (cellAt query 1) _ (omega (arith, long, sound .count))
 
@@ -106,11 +106,11 @@ module _ (query : List ℕ) (fine : checkOf query ≡ Done) where
         below = λ j h. subst (λ (z : ℕ). z < cellAt query 0) (sym (getD-take (cellAt query 1) _ j 0 (omega (arith, terms-long)))) (sound .below j (omega (arith, terms-long)));
       }
 
-  least : 2 ≤ cellAt query 0
+  pub least : 2 ≤ cellAt query 0
   unfolding s sequenceOf
   least = sound .least
 
-  most : cellAt query 0 ≤ maxModulus
+  pub most : cellAt query 0 ≤ maxModulus
   unfolding s sequenceOf
   most = sound .most
 

@@ -1,9 +1,9 @@
--- The claims about every list of calls, and about records made and served.
+-- The claims about every list of calls, about records made and served, and about testing and running.
 -- Assumes nothing.
 use mathlib.Core.Path.{_≡_}
 use mathlib.Core.Logic.{_⊎_}
 use mathlib.Core.List.{List, map}
-use Prim.Native.Nat.{ℕ, zero, _%_, _≤_, _<_}
+use Prim.Native.Nat.{ℕ, zero, _+_, _*_, _%_, _≤_, _<_}
 use lib.ListN.{length, take, drop}
 use Rattle.lists.specs.Table.{at, tabulate}
 use Rattle.cells.specs.Cell.{cellAt, bytesOf}
@@ -17,6 +17,9 @@ use Rattle.sequence.specs.declared.Reported.the-variants.{Length}
 use Rattle.sequence.specs.Limits.{maxModulus, maxTerms, maxCells, aBytes, bBytes, profileBytes}
 use Rattle.sequence.specs.Rules.{openOf, sequenceOf, checkOf}
 use Rattle.sequence.specs.Report.{reportOf, aBuffer, bBuffer, written, profileOf, profileBuffer, filled}
+use Rattle.candidate.specs.declared.Verdict.the-variants.{Yes, No}
+use Rattle.candidate.specs.declared.Flaw.the-variants.{Fine}
+use Rattle.candidate.specs.Rules.{aCells, bCells, flawOf, verifyOf, generateOf, generatedIn}
 use Rattle.catalogue.specs.declared.LookedUp.the-variants.{Found, Made}
 use Rattle.catalogue.specs.Rules.{recordBytes, aPlace, bPlace, lengthCell, recordOf, synthesizeOf, recordAt, records, lookUpOf, servedIn}
 use Rattle.guarantees.specs.Calls.{Call, push, afterAll, taken}
@@ -92,3 +95,34 @@ pub record Same (query catalogue out : List ℕ) : Type 0 where
 unfoldable pub MadeServedReported : Type 0
 MadeServedReported =
     (query catalogue out : List ℕ) → checkOf query ≡ Done → MadeCatalogue catalogue → length out ≡ recordBytes → Same query catalogue out
+
+-- ---- testing and running
+
+-- what stands in the cells after running a candidate modulo the query's modulus
+abbrev pub ranIn : List ℕ → List ℕ → List ℕ → ℕ → List ℕ → List ℕ
+ranIn query a b l cells = generatedIn (generateOf (cellAt query 0) a b l cells) (cellAt query 0) a b l cells
+
+-- the cells run are the query's terms below place j, and at j another number
+pub record DiffersAt (query ran : List ℕ) (j : ℕ) : Type 0 where
+  pub within : j < cellAt query 1
+  pub below : (i : ℕ) → i < j → cellAt ran i ≡ cellAt query (2 + i)
+  pub other : cellAt ran j ≡ cellAt query (2 + j) → ⊥
+
+-- A candidate tested against a query, and run for as many cells as the query has terms.
+pub record Tested (query a b : List ℕ) (l : ℕ) (cells : List ℕ) : Type 0 where
+  -- running is not refused
+  pub ran : generateOf (cellAt query 0) a b l cells ≡ Done
+  -- testing says yes exactly when running writes the query's terms
+  pub yes-runs : verifyOf query a b l ≡ Yes → ranIn query a b l cells ≡ bytesOf (termsOf query)
+  pub runs-yes : ranIn query a b l cells ≡ bytesOf (termsOf query) → verifyOf query a b l ≡ Yes
+  -- which are the bytes in the query itself; a list that holds more than bytes is no query that a call can be handed
+  pub own-bytes : ((i : ℕ) → at query i < 256) → bytesOf (termsOf query) ≡ take (2 * cellAt query 1) (drop 4 query)
+  -- it says no with place j exactly when j is the first place where they differ
+  pub no-differs : (j : ℕ) → verifyOf query a b l ≡ No j → DiffersAt query (ranIn query a b l cells) j
+  pub differs-no : (j : ℕ) → DiffersAt query (ranIn query a b l cells) j → verifyOf query a b l ≡ No j
+
+-- For a query that meets no refusal of its own and a candidate without a flaw, of any length that one may have.
+unfoldable pub TestedByRunning : Type 0
+TestedByRunning =
+    (query a b : List ℕ) (l : ℕ) (cells : List ℕ) → checkOf query ≡ Done → length a ≡ aBytes → length b ≡ bBytes
+    → flawOf (cellAt query 0) l (aCells a) (bCells b) ≡ Fine → length cells ≡ 2 * cellAt query 1 → Tested query a b l cells
