@@ -26,7 +26,7 @@ use Rattle.sequence.specs.Limits.{maxModulus, maxTerms, maxCells, aBytes, bByte
 use Rattle.synthesis.specs.Synthesis.{lengthAt}
 use Rattle.sequence.specs.Report.{registerOf, aBuffer, bBuffer, profileBuffer, reportOf, written, profileOf, filled}
 use Rattle.guarantees.specs.Calls.{taken}
-use Rattle.guarantees.specs.Claims.{Shows, Demand3}
+use Rattle.guarantees.specs.Claims.{ShownBy, Demand3}
 use Rattle.guarantees.proofs.State.{holding, padded, padded-at, Good, sound-for, opens, state, good}
 
 -- a cell that was written holds its number
@@ -92,7 +92,7 @@ module _ (m : ℕ) (least : 2 ≤ m) (most : m ≤ maxModulus) (ts : List ℕ) (
   unfolding lengthAt
   past-length k h = ap (λ t. pick t (complexity m (padded ts) k) zero) (lt-leb k (length ts) h)
 
-  pub shows : (a b cells : List ℕ) → length a ≡ aBytes → length b ≡ bBytes → length cells ≡ profileBytes → Shows m ts (holding m ts) a b cells
+  pub shows : (a b cells : List ℕ) → length a ≡ aBytes → length b ≡ bBytes → length cells ≡ profileBytes → ShownBy m ts (holding m ts) a b cells
   shows a b cells ha hb hc =
       record {
         reported = reported a b ha hb;
@@ -117,6 +117,6 @@ demand m least most =
     record {
       opened = opens m least most;
       shows = λ calls a b cells ha hb hc.
-          subst (λ (s : Sequence). Shows m (taken m calls) s a b cells) (sym (state m least most calls))
+          subst (λ (s : Sequence). ShownBy m (taken m calls) s a b cells) (sym (state m least most calls))
           (shows m least most (taken m calls) (good m least most calls) a b cells ha hb hc);
     }

@@ -1,6 +1,6 @@
--- Driving a coded list of calls: one call more, and what the buffers hold at the end.
+-- Driving a coded list of calls: one call more, and what the replies and the buffers are at the end.
 -- Assumes nothing.
-use mathlib.Core.Path.{_≡_, refl, sym, ap, _∙_, subst}
+use mathlib.Core.Path.{_≡_, refl, sym, ap, _∙_, subst, subst₂}
 use mathlib.Core.List.{List, [], _∷_, _++_, map}
 use Prim.Native.Nat.{ℕ, zero, suc, _+_, _-_, _≤_, _<_}
 use native.Mathlib.Numerals.{add-one}
@@ -8,77 +8,110 @@ use native.Mathlib.Omega.{arith}
 use lib.ListN.{length, take}
 use lib.Seq.{take-suc, take-all}
 use Rattle.lists.specs.Table.{at}
-use Rattle.cells.specs.Cell.{cellAt}
-use Rattle.recurrence.specs.Least.{Least}
 use Rattle.sequence.specs.declared.Sequence.{Sequence}
+use Rattle.sequence.specs.declared.Pushed.{Pushed}
 use Rattle.sequence.specs.declared.Outcome.{Outcome}
 use Rattle.sequence.specs.declared.Reported.{Reported}
 use Rattle.sequence.specs.Limits.{maxModulus, aBytes, bBytes, profileBytes}
-use Rattle.sequence.specs.Rules.{openOf}
+use Rattle.sequence.specs.Rules.{openOf, pushOf}
 use Rattle.sequence.specs.Report.{reportOf, aBuffer, bBuffer, written, profileOf, profileBuffer, filled}
-use Rattle.guarantees.specs.Calls.{Call, push, after, afterAll}
-use Rattle.guarantees.specs.Claims.{Shows, Demand3}
-use Rattle.guarantees.specs.Coded.{callOf, termsOf, Driven}
+use Rattle.guarantees.specs.declared.Replies.{Replies}
+use Rattle.guarantees.specs.Calls.{after, afterAll}
+use Rattle.guarantees.specs.Claims.{Shows, ShownBy, Demand3}
+use Rattle.guarantees.specs.Coded.{callOf, takenBy, State, stateOf, afterCode, afterCodes, drivenTo, repliesOf, ended}
 use Rattle.guarantees.proofs.Demand.{demand}
 
--- a code from 2 on is a push
-pub is-push : (code : ℕ) → (code ≡ 0 → ⊥) → (code ≡ 1 → ⊥) → push (code - 2) ≡ callOf code
-is-push zero h k = absurd (h refl)
-is-push (suc zero) h k = absurd (k refl)
-is-push (suc (suc t)) h k = ap push (let e : suc (suc t) - 2 ≡ t = omega arith in e)
+-- ---- one call
 
-after-snoc : (s : Sequence) (cs : List Call) (c : Call) → afterAll s (cs ++ (c ∷ [])) ≡ after (afterAll s cs) c
-unfolding afterAll
-after-snoc s [] c = refl
-after-snoc s (d ∷ cs) c = after-snoc (after s d) cs c
+module _ (s : Sequence) (code : ℕ) (a b cells : List ℕ) where
+  -- a register was made
+  pub reports : (a′ b′ : List ℕ) (r : Reported) → code ≡ 0 → r ≡ reportOf s a b → a′ ≡ written r (aBuffer s) a → b′ ≡ written r (bBuffer s) b
+      → stateOf s a′ b′ cells ≡ afterCode (stateOf s a b cells) code
+  unfolding afterCode
+  reports a′ b′ r h hr ha hb =
+      (λ i. stateOf s ((ha ∙ ap (λ (t : Reported). written t (aBuffer s) a) hr) i) ((hb ∙ ap (λ (t : Reported). written t (bBuffer s) b) hr) i) cells)
+      ∙ ap (afterCode (stateOf s a b cells)) (sym h)
 
-map-snoc : (codes : List ℕ) (x : ℕ) → map callOf (codes ++ (x ∷ [])) ≡ map callOf codes ++ (callOf x ∷ [])
-map-snoc [] x = refl
-map-snoc (y ∷ codes) x = ap (λ (cs : List Call). callOf y ∷ cs) (map-snoc codes x)
+  -- a profile
+  pub profiles : (cells′ : List ℕ) (o : Outcome) → code ≡ 1 → o ≡ profileOf s cells → cells′ ≡ filled o (profileBuffer s) cells
+      → stateOf s a b cells′ ≡ afterCode (stateOf s a b cells) code
+  unfolding afterCode
+  profiles cells′ o h ho hc =
+      ap (stateOf s a b) (hc ∙ ap (λ (t : Outcome). filled t (profileBuffer s) cells) ho)
+      ∙ ap (afterCode (stateOf s a b cells)) (sym h)
 
--- the sequence after the first i calls
-abbrev pub Reached : Sequence → List ℕ → ℕ → Sequence → Type 0
-Reached s₀ codes i s = s ≡ afterAll s₀ (map callOf (take i codes))
+  -- a push
+  pub pushes : (p : Pushed) → (code ≡ 0 → ⊥) → (code ≡ 1 → ⊥) → p ≡ pushOf s (code - 2) → stateOf (p .sequence) a b cells ≡ afterCode (stateOf s a b cells) code
+  unfolding afterCode
+  pushes p h k hp =
+      ap (λ (q : Pushed). stateOf (q .sequence) a b cells) hp
+      ∙ ap (afterCode (stateOf s a b cells)) (let e : suc (suc (code - 2)) ≡ code = omega arith in e)
 
-pub reached-none : (s₀ : Sequence) (codes : List ℕ) → Reached s₀ codes 0 s₀
-unfolding afterAll
-reached-none s₀ codes = refl
+-- ---- the list of calls
 
-pub reached-more : (s₀ : Sequence) (codes : List ℕ) (i : ℕ) (s s′ : Sequence) → i < length codes → Reached s₀ codes i s → s′ ≡ after s (callOf (at codes i))
-    → Reached s₀ codes (i + 1) s′
-reached-more s₀ codes i s s′ h r e =
-    e ∙ ap (λ (t : Sequence). after t (callOf (at codes i))) r
-    ∙ sym (after-snoc s₀ (map callOf (take i codes)) (callOf (at codes i)))
-    ∙ ap (afterAll s₀) (sym (map-snoc (take i codes) (at codes i)) ∙ ap (map callOf) (sym (take-suc codes i 0 h) ∙ ap (λ (k : ℕ). take k codes) (sym (add-one i))))
+codes-snoc : (x : State) (cs : List ℕ) (c : ℕ) → afterCodes x (cs ++ (c ∷ [])) ≡ afterCode (afterCodes x cs) c
+unfolding afterCodes
+codes-snoc x [] c = refl
+codes-snoc x (d ∷ cs) c = codes-snoc (afterCode x d) cs c
 
-pub reached-all : (s₀ : Sequence) (codes : List ℕ) (i : ℕ) (s : Sequence) → length codes ≤ i → Reached s₀ codes i s → s ≡ afterAll s₀ (map callOf codes)
-reached-all s₀ codes i s h r = r ∙ ap (λ (xs : List ℕ). afterAll s₀ (map callOf xs)) (take-all i codes h)
+-- the state after the first i calls
+abbrev pub Reached : State → List ℕ → ℕ → State → Type 0
+Reached x₀ codes i x = x ≡ afterCodes x₀ (take i codes)
 
--- what the last register and profile leave
-pub driven : (m : ℕ) (codes : List ℕ) (s : Sequence) (a b cells a′ b′ cells′ : List ℕ) (r : Reported) (o : Outcome)
-    → 2 ≤ m → m ≤ maxModulus → s ≡ afterAll (openOf m .sequence) (map callOf codes)
-    → length a ≡ aBytes → length b ≡ bBytes → length cells ≡ profileBytes
-    → r ≡ reportOf s a b → a′ ≡ written r (aBuffer s) a → b′ ≡ written r (bBuffer s) b
-    → o ≡ profileOf s cells → cells′ ≡ filled o (profileBuffer s) cells
-    → Driven m codes o a′ b′ cells′
-unfolding Demand3
-driven m codes s a b cells a′ b′ cells′ r o least most hs ha hb hc hr ea eb ho ec =
-    record {
-      done = ho ∙ x .profiled;
-      a-cells = ea′ ∙ x .a-cells;
-      b-cells = eb ∙ ap (λ (t : Reported). written t (bBuffer s) b) hr ∙ x .b-cells;
-      least = λ k h. subst (λ (c : List ℕ). Least m (at (termsOf m codes)) k (cellAt c k)) (sym ec′) (x .least k h);
-      zeros = λ k h l. ap (λ (c : List ℕ). cellAt c k) ec′ ∙ x .zeros k h l;
-      last = x .last ∙ ap (λ (c : List ℕ). cellAt c (length (termsOf m codes))) (sym ec′);
-      one = ap (λ (c : List ℕ). cellAt c 0) ea′ ∙ x .one;
-      generates = x .generates;
-    }
-  where
-    x : Shows m (termsOf m codes) s a b cells
-    x = subst (λ (t : Sequence). Shows m (termsOf m codes) t a b cells) (sym hs) (demand m least most .shows (map callOf codes) a b cells ha hb hc)
+pub reached-none : (x₀ : State) (codes : List ℕ) → Reached x₀ codes 0 x₀
+unfolding afterCodes
+reached-none x₀ codes = refl
 
-    ea′ : a′ ≡ written (reportOf s a b) (aBuffer s) a
-    ea′ = ea ∙ ap (λ (t : Reported). written t (aBuffer s) a) hr
+pub reached-more : (x₀ : State) (codes : List ℕ) (i : ℕ) (x x′ : State) → i < length codes → Reached x₀ codes i x → x′ ≡ afterCode x (at codes i) → Reached x₀ codes (i + 1) x′
+reached-more x₀ codes i x x′ h r e =
+    e ∙ ap (λ (t : State). afterCode t (at codes i)) r ∙ sym (codes-snoc x₀ (take i codes) (at codes i))
+    ∙ ap (afterCodes x₀) (sym (take-suc codes i 0 h) ∙ ap (λ (k : ℕ). take k codes) (sym (add-one i)))
 
-    ec′ : cells′ ≡ filled (profileOf s cells) (profileBuffer s) cells
-    ec′ = ec ∙ ap (λ (t : Outcome). filled t (profileBuffer s) cells) ho
+pub reached-all : (x₀ : State) (codes : List ℕ) (i : ℕ) (x : State) → length codes ≤ i → Reached x₀ codes i x → x ≡ afterCodes x₀ codes
+reached-all x₀ codes i x h r = r ∙ ap (afterCodes x₀) (take-all i codes h)
+
+-- the sequence is the one that the calls leave
+after-one : (x : State) (code : ℕ) → afterCode x code .sequence ≡ after (x .sequence) (callOf code)
+unfolding afterCode
+after-one x zero = refl
+after-one x (suc zero) = refl
+after-one x (suc (suc t)) = refl
+
+after-all : (x : State) (codes : List ℕ) → afterCodes x codes .sequence ≡ afterAll (x .sequence) (map callOf codes)
+unfolding afterCodes afterAll
+after-all x [] = refl
+after-all x (c ∷ cs) = after-all (afterCode x c) cs ∙ ap (λ (s : Sequence). afterAll s (map callOf cs)) (after-one x c)
+
+-- ---- the last register and the last profile
+
+abbrev ShowsAt : ℕ → List ℕ → Replies → State → Type 0
+ShowsAt m codes r x = Shows m (takenBy m codes) (r .reported) (r .profiled) (x .a) (x .b) (x .cells)
+
+module _ (m : ℕ) (codes a₀ b₀ cells₀ : List ℕ) (s : Sequence) (a b cells : List ℕ) (reached : stateOf s a b cells ≡ drivenTo m codes a₀ b₀ cells₀)
+    (same-a : length a ≡ length a₀) (same-b : length b ≡ length b₀) (same-cells : length cells ≡ length cells₀)
+    (r : Reported) (o : Outcome) (a′ b′ cells′ : List ℕ) (hr : r ≡ reportOf s a b) (ha : a′ ≡ written r (aBuffer s) a) (hb : b′ ≡ written r (bBuffer s) b)
+    (ho : o ≡ profileOf s cells) (hc : cells′ ≡ filled o (profileBuffer s) cells) where
+  replied : _≡_ {A = Replies} (record { reported = r; profiled = o }) (repliesOf (stateOf s a b cells))
+  unfolding repliesOf
+  replied = λ i. record { reported = hr i; profiled = ho i }
+
+  left : stateOf s a′ b′ cells′ ≡ ended (stateOf s a b cells)
+  left = profiles s 1 a′ b′ cells cells′ o refl ho hc ∙ ap (λ (x : State). afterCode x 1) (reports s 0 a b cells a′ b′ r refl hr ha hb)
+
+  -- they show the terms that the coded calls took
+  shown : 2 ≤ m → m ≤ maxModulus → length a₀ ≡ aBytes → length b₀ ≡ bBytes → length cells₀ ≡ profileBytes → Shows m (takenBy m codes) r o a′ b′ cells′
+  unfolding Demand3 afterCode repliesOf
+  shown least most la lb lc =
+      subst₂ (ShowsAt m codes) (sym replied) (sym left)
+      (subst (λ (t : Sequence). ShownBy m (takenBy m codes) t a b cells) (sym (ap (λ (x : State). x .sequence) reached ∙ after-all (stateOf (openOf m .sequence) a₀ b₀ cells₀) codes))
+      (demand m least most .shows (map callOf codes) a b cells (same-a ∙ la) (same-b ∙ lb) (same-cells ∙ lc)))
+
+  pub driven :
+      _≡_ {A = Replies} (record { reported = r; profiled = o }) (repliesOf (drivenTo m codes a₀ b₀ cells₀))
+      × ((a′ ≡ ended (drivenTo m codes a₀ b₀ cells₀) .a)
+      × ((b′ ≡ ended (drivenTo m codes a₀ b₀ cells₀) .b)
+      × ((cells′ ≡ ended (drivenTo m codes a₀ b₀ cells₀) .cells)
+      × (2 ≤ m → m ≤ maxModulus → length a₀ ≡ aBytes → length b₀ ≡ bBytes → length cells₀ ≡ profileBytes → Shows m (takenBy m codes) r o a′ b′ cells′))))
+  driven =
+      let e = left ∙ ap ended reached in
+      (replied ∙ ap repliesOf reached, (ap (λ (x : State). x .a) e, (ap (λ (x : State). x .b) e, (ap (λ (x : State). x .cells) e, shown))))

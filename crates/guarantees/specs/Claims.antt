@@ -12,7 +12,9 @@ use Rattle.recurrence.specs.Least.{Least}
 use Rattle.recurrence.specs.Register as T
 use Rattle.recurrence.specs.Register.{pairOf}
 use Rattle.sequence.specs.declared.Sequence.{Sequence}
+use Rattle.sequence.specs.declared.Outcome.{Outcome}
 use Rattle.sequence.specs.declared.Outcome.the-variants.{Done}
+use Rattle.sequence.specs.declared.Reported.{Reported}
 use Rattle.sequence.specs.declared.Reported.the-variants.{Length}
 use Rattle.sequence.specs.Limits.{maxModulus, maxTerms, maxCells, aBytes, bBytes, profileBytes}
 use Rattle.sequence.specs.Rules.{openOf, sequenceOf, checkOf}
@@ -24,22 +26,28 @@ use Rattle.catalogue.specs.declared.LookedUp.the-variants.{Found, Made}
 use Rattle.catalogue.specs.Rules.{recordBytes, aPlace, bPlace, lengthCell, recordOf, synthesizeOf, recordAt, records, lookUpOf, servedIn}
 use Rattle.guarantees.specs.Calls.{Call, push, afterAll, taken}
 
--- What the register and the profile reply and write, lent buffers a, b and cells, for a sequence that should hold the terms ts modulo m.
-pub record Shows (m : ℕ) (ts : List ℕ) (s : Sequence) (a b cells : List ℕ) : Type 0 where
+-- What a register and a profile of the terms ts modulo m must show: r and o are their replies, and a, b and cells the lent buffers at exit.
+pub record Shows (m : ℕ) (ts : List ℕ) (r : Reported) (o : Outcome) (a b cells : List ℕ) : Type 0 where
   -- neither is refused
-  pub reported : reportOf s a b ≡ Length (T.register m ts (length ts) .length)
-  pub profiled : profileOf s cells ≡ Done
+  pub reported : r ≡ Length (T.register m ts (length ts) .length)
+  pub profiled : o ≡ Done
   -- the register written is the one that the steps, joined by remainders, give for the terms
-  pub a-cells : written (reportOf s a b) (aBuffer s) a ≡ bytesOf (tabulate maxCells (at (T.register m ts (length ts) .a)))
-  pub b-cells : written (reportOf s a b) (bBuffer s) b ≡ bytesOf (tabulate maxTerms (at (T.register m ts (length ts) .b)))
+  pub a-cells : a ≡ bytesOf (tabulate maxCells (at (T.register m ts (length ts) .a)))
+  pub b-cells : b ≡ bytesOf (tabulate maxTerms (at (T.register m ts (length ts) .b)))
   -- cell k of the profile is the least length for the first k terms, and zero past the last
-  pub least : (k : ℕ) → k ≤ length ts → Least m (at ts) k (cellAt (filled (profileOf s cells) (profileBuffer s) cells) k)
-  pub zeros : (k : ℕ) → length ts < k → k ≤ maxTerms → cellAt (filled (profileOf s cells) (profileBuffer s) cells) k ≡ zero
+  pub least : (k : ℕ) → k ≤ length ts → Least m (at ts) k (cellAt cells k)
+  pub zeros : (k : ℕ) → length ts < k → k ≤ maxTerms → cellAt cells k ≡ zero
   -- the register's length is the profile's last cell
-  pub last : T.register m ts (length ts) .length ≡ cellAt (filled (profileOf s cells) (profileBuffer s) cells) (length ts)
+  pub last : T.register m ts (length ts) .length ≡ cellAt cells (length ts)
   -- it starts with 1 and generates every term
-  pub one : cellAt (written (reportOf s a b) (aBuffer s) a) 0 ≡ 1
+  pub one : cellAt a 0 ≡ 1
   pub generates : Generates m ts (length ts) (pairOf (T.register m ts (length ts)))
+
+-- the register and the profile of a sequence show them, lent buffers a, b and cells
+abbrev pub ShownBy : ℕ → List ℕ → Sequence → List ℕ → List ℕ → List ℕ → Type 0
+ShownBy m ts s a b cells =
+    Shows m ts (reportOf s a b) (profileOf s cells)
+    (written (reportOf s a b) (aBuffer s) a) (written (reportOf s a b) (bBuffer s) b) (filled (profileOf s cells) (profileBuffer s) cells)
 
 -- Demand 3: for every modulus within the limits opening is not refused, and after every list of calls the register and the profile
 -- show the terms taken.
@@ -47,7 +55,7 @@ pub record EveryList (m : ℕ) : Type 0 where
   pub opened : openOf m .outcome ≡ Done
   pub shows :
       (calls : List Call) (a b cells : List ℕ) → length a ≡ aBytes → length b ≡ bBytes → length cells ≡ profileBytes
-      → Shows m (taken m calls) (afterAll (openOf m .sequence) calls) a b cells
+      → ShownBy m (taken m calls) (afterAll (openOf m .sequence) calls) a b cells
 
 unfoldable pub Demand3 : Type 0
 Demand3 = (m : ℕ) → 2 ≤ m → m ≤ maxModulus → EveryList m

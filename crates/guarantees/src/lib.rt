@@ -1,19 +1,25 @@
 // The claims that speak of several calls: specs/ has them, proofs/ their proofs. The one function drives a list of calls through
-// the calls themselves, with the claim about every list as its contract.
+// the calls themselves; its contract says what they all do together, and the claim about every list.
 use sequence::Outcome;
+use sequence::Reported;
 use sequence::Sequence;
 ghost use mathlib.Core.Path.{_≡_};
-ghost use mathlib.Core.List.{map};
-ghost use Prim.Native.Nat.{_≤_, _<_};
+ghost use Prim.Native.Nat.{_≤_};
 ghost use lib.ListN.{length};
 ghost use Rattle.sequence.specs.Limits.{maxModulus, aBytes, bBytes, profileBytes};
-ghost use Rattle.guarantees.specs.Calls.{after};
-ghost use Rattle.guarantees.specs.Coded.{callOf, Driven};
+ghost use Rattle.guarantees.specs.Claims.{Shows};
+ghost use Rattle.guarantees.specs.Coded.{takenBy, stateOf, afterCode, drivenTo, repliesOf, ended};
+
+// What the last register and the last profile reply.
+pub struct Replies {
+    pub reported: Reported,
+    pub profiled: Outcome,
+}
 
 // One call, coded as a number: 0 is a register, 1 a profile, n + 2 a push of n.
+// Rejected: a register that is lent b as a and a as b.
 fn one(s: Sequence, code: u32, a: &mut [u8], b: &mut [u8], cells: &mut [u8]) -> Sequence
-    ensures { λ r. ⌜ r ≡ after s (callOf code) ⌝ }
-    ensures { λ _. ⌜ (length (now (a .exit)) ≡ length (now (a .entry))) × (length (now (b .exit)) ≡ length (now (b .entry))) × (length (now (cells .exit)) ≡ length (now (cells .entry))) ⌝ }
+    ensures { λ r. ⌜ stateOf r (now (a .exit)) (now (b .exit)) (now (cells .exit)) ≡ afterCode (stateOf s (now (a .entry)) (now (b .entry)) (now (cells .entry))) code ⌝ }
 {
     if code == 0 {
         sequence::register(s, a, b);
@@ -28,8 +34,12 @@ fn one(s: Sequence, code: u32, a: &mut [u8], b: &mut [u8], cells: &mut [u8]) -> 
 }
 
 // Opens a sequence, makes the coded calls one after the other, then a register and a profile.
-pub fn drive(modulus: u32, codes: &[u32], a: &mut [u8], b: &mut [u8], cells: &mut [u8]) -> Outcome
-    ensures { λ r. ⌜ (2 ≤ modulus → modulus ≤ maxModulus → length (now (a .entry)) ≡ aBytes → length (now (b .entry)) ≡ bBytes → length (now (cells .entry)) ≡ profileBytes → Driven modulus (now (codes .entry)) r (now (a .exit)) (now (b .exit)) (now (cells .exit))) ⌝ }
+pub fn drive(modulus: u32, codes: &[u32], a: &mut [u8], b: &mut [u8], cells: &mut [u8]) -> Replies
+    ensures { λ r. ⌜ r ≡ repliesOf (drivenTo modulus (now (codes .entry)) (now (a .entry)) (now (b .entry)) (now (cells .entry))) ⌝ }
+    ensures { λ _. ⌜ now (a .exit) ≡ ended (drivenTo modulus (now (codes .entry)) (now (a .entry)) (now (b .entry)) (now (cells .entry))) .a ⌝ }
+    ensures { λ _. ⌜ now (b .exit) ≡ ended (drivenTo modulus (now (codes .entry)) (now (a .entry)) (now (b .entry)) (now (cells .entry))) .b ⌝ }
+    ensures { λ _. ⌜ now (cells .exit) ≡ ended (drivenTo modulus (now (codes .entry)) (now (a .entry)) (now (b .entry)) (now (cells .entry))) .cells ⌝ }
+    ensures { λ r. ⌜ (2 ≤ modulus → modulus ≤ maxModulus → length (now (a .entry)) ≡ aBytes → length (now (b .entry)) ≡ bBytes → length (now (cells .entry)) ≡ profileBytes → Shows modulus (takenBy modulus (now (codes .entry))) (r .reported) (r .profiled) (now (a .exit)) (now (b .exit)) (now (cells .exit))) ⌝ }
 {
     let o = sequence::open(modulus);
     let mut s = o.sequence;
@@ -38,6 +48,10 @@ pub fn drive(modulus: u32, codes: &[u32], a: &mut [u8], b: &mut [u8], cells: &mu
         s = one(s, codes[i], a, b, cells);
         i += 1;
     }
-    sequence::register(s, a, b);
-    sequence::profile(s, cells)
+    let reported = sequence::register(s, a, b);
+    let profiled = sequence::profile(s, cells);
+    Replies {
+        reported: reported,
+        profiled: profiled,
+    }
 }

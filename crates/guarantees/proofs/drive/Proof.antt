@@ -6,13 +6,14 @@ use Prim.Native.Nat.{_-_}
 use lib.ListN.{length}
 use Rattle.sequence.specs.declared.Opened.{Opened}
 use Rattle.sequence.specs.Rules.{openOf}
+use Rattle.guarantees.specs.Coded.{stateOf}
 use Rattle.guarantees.proofs.Driving.{Reached, reached-none, reached-more, reached-all, driven}
 use Rattle.guarantees.proofs.drive.Statement.{statement}
 use Rattle.guarantees.proofs.drive.Tie as tie
 
 abbrev Inv-loop : tie.InvT-loop
 Inv-loop modulus codes a₀ b₀ cells₀ s₀ i₀ a b cells s i =
-    Reached (openOf modulus .sequence) codes i s × (length a ≡ length a₀) × (length b ≡ length b₀) × (length cells ≡ length cells₀)
+    Reached (stateOf (openOf modulus .sequence) a₀ b₀ cells₀) codes i (stateOf s a b cells) × (length a ≡ length a₀) × (length b ≡ length b₀) × (length cells ≡ length cells₀)
 
 abbrev μ-loop : tie.MeasureT-loop
 μ-loop modulus codes a₀ b₀ cells₀ s₀ i₀ a b cells s i = length codes - i
@@ -21,7 +22,9 @@ open-requires : tie.Need-open-requires Inv-loop μ-loop
 open-requires c κs = search needs
 
 loop-holds : tie.Need-loop-holds Inv-loop μ-loop
-loop-holds c = (ap (λ (o : Opened). o .sequence) (c .before .«open» .ensures) ∙ reached-none _ (c .before .before .before .before .before .before .args .codes .now), refl, refl, refl)
+loop-holds c =
+    let v = c .before .before .before .before .before .before .args in
+    (ap (λ (o : Opened). stateOf (o .sequence) (v .a .now) (v .b .now) (v .cells .now)) (c .before .«open» .ensures) ∙ reached-none _ (v .codes .now), refl, refl, refl)
 
 mul-one : tie.Need-mul-one Inv-loop μ-loop
 mul-one c = search needs
@@ -41,8 +44,7 @@ loop-less c = search needs
 loop-again : tie.Need-loop-again Inv-loop μ-loop
 loop-again c =
     let l = c .before .before .before .before .before .before .before .before .before .before .before .before .loop in
-    let o = c .before .before .before .before .before .before .one .ensures in
-    (reached-more _ _ (l .i) (l .s) _ (c .before .before .before .before .before .before .before .before .before .before .before .loop-test .taken) (l .inv .0) (o .0), o .1 .0 ∙ l .inv .1, o .1 .1 ∙ l .inv .2, o .1 .2 ∙ l .inv .3)
+    (reached-more _ _ (l .i) (stateOf (l .s) (l .a) (l .b) (l .cells)) _ (c .before .before .before .before .before .before .before .before .before .before .before .loop-test .taken) (l .inv .0) (c .before .before .before .before .before .before .one .ensures), search needs, search needs, search needs)
 
 register-requires : tie.Need-register-requires Inv-loop μ-loop
 register-requires c κs = search needs
@@ -60,14 +62,14 @@ same-length-3 : tie.Need-same-length-3 Inv-loop μ-loop
 same-length-3 c = search needs
 
 returns : tie.Need-returns Inv-loop μ-loop
-returns c least most ha hb hc =
+returns c =
     let l = c .before .before .before .before .before .before .before .before .before .before .before .before .loop in
     let v = c .before .before .before .before .before .before .before .before .before .before .before .before .before .before .before .before .before .before .before .args in
     let r = c .before .before .before .before .before .before .before .before .register in
     let p = c .before .before .profile in
-    driven (v .modulus) (v .codes .now) (l .s) (l .a) (l .b) (l .cells) _ _ _ (r .result) (p .result) least most
-    (reached-all _ _ (l .i) (l .s) (c .before .before .before .before .before .before .before .before .before .before .before .loop-test .left) (l .inv .0)) (l .inv .1 ∙ ha) (l .inv .2 ∙ hb) (l .inv .3 ∙ hc)
-    (r .ensures .0) (r .ensures .1 .0) (r .ensures .1 .1) (p .ensures .0) (p .ensures .1)
+    driven (v .modulus) (v .codes .now) (v .a .now) (v .b .now) (v .cells .now) (l .s) (l .a) (l .b) (l .cells)
+    (reached-all _ _ (l .i) _ (c .before .before .before .before .before .before .before .before .before .before .before .loop-test .left) (l .inv .0)) (l .inv .1) (l .inv .2) (l .inv .3)
+    (r .result) (p .result) _ _ _ (r .ensures .0) (r .ensures .1 .0) (r .ensures .1 .1) (p .ensures .0) (p .ensures .1)
 
 pub drive-spec : {M : Type 1} → statement M
 drive-spec =

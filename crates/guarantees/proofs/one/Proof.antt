@@ -1,12 +1,7 @@
 -- `guarantees::one` meets its contract.
 -- Assumes nothing.
 use borrow.Author.Needs.{needs}
-use mathlib.Core.Path.{sym, ap, _∙_}
-use Prim.Native.Nat.{ℕ}
-use Rattle.sequence.specs.declared.Pushed.{Pushed}
-use Rattle.guarantees.proofs.Driving.{is-push}
-use Rattle.guarantees.specs.Calls.{after}
-use Rattle.guarantees.specs.Coded.{callOf}
+use Rattle.guarantees.proofs.Driving.{reports, profiles, pushes}
 use Rattle.guarantees.proofs.one.Statement.{statement}
 use Rattle.guarantees.proofs.one.Tie as tie
 
@@ -20,7 +15,10 @@ same-length-2 : tie.Need-same-length-2
 same-length-2 c = search needs
 
 returns : tie.Need-returns
-returns c = (ap (λ (k : ℕ). after (c .before .before .before .before .before .before .before .before .before .before .before .args .s) (callOf k)) (sym (c .before .before .before .before .before .before .before .if1 .taken)), (search needs, search needs, search needs))
+returns c =
+    let v = c .before .before .before .before .before .before .before .before .before .before .before .args in
+    let r = c .before .before .before .before .register in
+    reports (v .s) (v .code) (v .a .now) (v .b .now) (v .cells .now) _ _ (r .result) (c .before .before .before .before .before .before .before .if1 .taken) (r .ensures .0) (r .ensures .1 .0) (r .ensures .1 .1)
 
 profile-requires : tie.Need-profile-requires
 profile-requires c κs = search needs
@@ -29,7 +27,10 @@ same-length-3 : tie.Need-same-length-3
 same-length-3 c = search needs
 
 returns-2 : tie.Need-returns-2
-returns-2 c = search needs
+returns-2 c =
+    let v = c .before .before .before .before .before .before .before .before .before .args in
+    let p = c .before .before .profile in
+    profiles (v .s) (v .code) (v .a .now) (v .b .now) (v .cells .now) _ (p .result) (c .before .before .before .before .if2 .taken) (p .ensures .0) (p .ensures .1)
 
 sub-push : tie.Need-sub-push
 sub-push c = search needs
@@ -38,11 +39,9 @@ push-requires : tie.Need-push-requires
 push-requires c κs = search needs
 
 returns-3 : tie.Need-returns-3
-returns-3 c = (
-  ap (λ (p : Pushed). p .sequence) (c .before .push .ensures)
-      ∙ ap (after (c .before .before .before .before .before .before .before .args .s)) (is-push (c .before .before .before .before .before .before .before .args .code) (c .before .before .before .if1 .left) (c .before .before .if2 .left)),
-  (search needs, search needs, search needs),
-)
+returns-3 c =
+    let v = c .before .before .before .before .before .before .before .args in
+    pushes (v .s) (v .code) (v .a .now) (v .b .now) (v .cells .now) (c .before .push .result) (c .before .before .before .if1 .left) (c .before .before .if2 .left) (c .before .push .ensures)
 
 pub one-spec : {M : Type 1} → statement M
 one-spec =
