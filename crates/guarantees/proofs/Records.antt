@@ -192,16 +192,13 @@ module _ (query : List ℕ) (fine : checkOf query ≡ Done) where
       ap₂ (λ (a b : List ℕ). judgeOf (sequenceOf query) a b (registerOf (sequenceOf query) .length)) a-back b-back
       ∙ rw (of-fine _ _ _ _ fine-candidate, agree, le-ltb (sequenceOf query .count) (sequenceOf query .count) (le-refl _))
 
-  pub record-passes : passes query (recordOf query) ≡ true
-  unfolding passes recordOf verifyOf
+  pub record-passes : passes (sequenceOf query) (recordOf query) ≡ true
+  unfolding passes recordOf
   record-passes =
       rw (
         layout-a query (sequenceOf query) size,
         layout-b query (sequenceOf query) size,
         layout-length-cell query (sequenceOf query) size small,
-        eq-eqb (length (aBuffer (sequenceOf query))) aBytes (length-a (sequenceOf query)),
-        eq-eqb (length (bBuffer (sequenceOf query))) bBytes (length-b (sequenceOf query)),
-        fine,
         judged,
       )
 
@@ -242,7 +239,7 @@ empty-made = record { whole = refl; each = λ i h. absurd (not-suc-le-zero h) }
 -- ---- serving
 
 module _ (query catalogue out : List ℕ) (fine : checkOf query ≡ Done) (made : MadeCatalogue catalogue) (long : length out ≡ recordBytes) where
-  looked : lookUpOf query catalogue out ≡ serveOf query catalogue (matchOf (records catalogue) (firstMatch query catalogue (records catalogue)))
+  looked : lookUpOf query catalogue out ≡ serveOf (sequenceOf query) catalogue (matchOf (records catalogue) (firstMatch query catalogue (records catalogue)))
   unfolding lookUpOf answerOf
   looked = rw (eq-eqb (length out) recordBytes long, fine, eq-eqb (length catalogue % recordBytes) 0 (made .whole))
 

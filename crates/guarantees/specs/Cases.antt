@@ -8,11 +8,10 @@ use Rattle.lists.specs.Table.{at, tabulate}
 use Rattle.cells.specs.Cell.{cellsFrom, bytesOf}
 use Rattle.sequence.specs.Limits.{maxCells, maxTerms, aBytes, bBytes, profileBytes}
 use Rattle.sequence.specs.declared.Sequence.{Sequence}
-use Rattle.sequence.specs.declared.Refusal.the-variants as R
-use Rattle.sequence.specs.declared.Outcome.the-variants.{Done, Refused}
 use Rattle.sequence.specs.declared.Reported.{Reported}
 use Rattle.sequence.specs.declared.Reported.the-variants.{Length}
-use Rattle.sequence.specs.Rules.{openOf, pushOf}
+use Rattle.sequence.specs.Answers.{granted, refused, outcomeAnswer}
+use Rattle.sequence.specs.Rules.{openOf, pushOf, queryOf}
 use Rattle.sequence.specs.Report.{reportOf, aBuffer, bBuffer, written, profileOf, profileBuffer, filled}
 use Rattle.candidate.specs.declared.Verdict.the-variants.{No}
 use Rattle.candidate.specs.Rules.{verifyOf, generateOf, generatedIn}
@@ -46,15 +45,12 @@ reply m ts l =
 unfoldable pub lengths : ℕ → List ℕ → List ℕ
 lengths m ts = let s = after m ts in cellsFrom (filled (profileOf s (zeros profileBytes)) (profileBuffer s) (zeros profileBytes)) 0 (suc (length ts))
 
--- coefficients as a lent buffer, and a query
+-- coefficients as a lent buffer
 abbrev pub aOf : List ℕ → List ℕ
 aOf xs = bytesOf (tabulate maxCells (at xs))
 
 abbrev pub bOf : List ℕ → List ℕ
 bOf xs = bytesOf (tabulate maxTerms (at xs))
-
-abbrev pub queryOf : ℕ → List ℕ → List ℕ
-queryOf m ts = bytesOf (m ∷ length ts ∷ tabulate maxTerms (at ts))
 
 -- the first cells that running gives
 unfoldable pub run : ℕ → List ℕ → List ℕ → ℕ → ℕ → List ℕ
@@ -73,5 +69,5 @@ pub record Cases : Type 0 where
   pub case10 : run 7 (1 ∷ 6 ∷ 6 ∷ []) (1 ∷ 0 ∷ []) 2 6 ≡ 1 ∷ 1 ∷ 2 ∷ 3 ∷ 5 ∷ 1 ∷ []
   pub case11 : verifyOf (queryOf 9 (6 ∷ 3 ∷ 1 ∷ 5 ∷ 6 ∷ [])) (aOf (1 ∷ 4 ∷ 7 ∷ 2 ∷ [])) (bOf (6 ∷ 0 ∷ 1 ∷ [])) 3 ≡ No 3
   pub case12 : reply 6 (1 ∷ 0 ∷ []) 1 ≡ record { answer = Length 1; a = 1 ∷ 0 ∷ []; b = 1 ∷ [] }
-  pub case13 : (pushOf (openOf 4095 .sequence) 4094 .outcome ≡ Done) × (pushOf (openOf 4095 .sequence) 4095 .outcome ≡ Refused R.Term)
-  pub case14 : (openOf 4096 .outcome ≡ Refused R.Modulus) × (openOf 1 .outcome ≡ Refused R.Modulus)
+  pub case13 : (outcomeAnswer (pushOf (openOf 4095 .sequence) 4094 .outcome) ≡ granted []) × (outcomeAnswer (pushOf (openOf 4095 .sequence) 4095 .outcome) ≡ refused 3)
+  pub case14 : (outcomeAnswer (openOf 4096 .outcome) ≡ refused 1) × (outcomeAnswer (openOf 1 .outcome) ≡ refused 1)

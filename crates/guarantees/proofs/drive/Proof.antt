@@ -24,7 +24,7 @@ open-requires c κs = search needs
 loop-holds : tie.Need-loop-holds Inv-loop μ-loop
 loop-holds c =
     let v = c .before .before .before .before .before .before .args in
-    (ap (λ (o : Opened). stateOf (o .sequence) (v .a .now) (v .b .now) (v .cells .now)) (c .before .«open» .ensures) ∙ reached-none _ (v .codes .now), refl, refl, refl)
+    (ap (λ (o : Opened). stateOf (o .sequence) (v .a .now) (v .b .now) (v .cells .now)) (c .before .«open» .ensures .0) ∙ reached-none _ (v .codes .now), refl, refl, refl)
 
 mul-one : tie.Need-mul-one Inv-loop μ-loop
 mul-one c = search needs
@@ -69,7 +69,7 @@ returns c =
     let p = c .before .before .profile in
     driven (v .modulus) (v .codes .now) (v .a .now) (v .b .now) (v .cells .now) (l .s) (l .a) (l .b) (l .cells)
     (reached-all _ _ (l .i) _ (c .before .before .before .before .before .before .before .before .before .before .before .loop-test .left) (l .inv .0)) (l .inv .1) (l .inv .2) (l .inv .3)
-    (r .result) (p .result) _ _ _ (r .ensures .0) (r .ensures .1 .0) (r .ensures .1 .1) (p .ensures .0) (p .ensures .1)
+    (r .result) (p .result) _ _ _ (r .ensures .0) (r .ensures .1 .0) (r .ensures .1 .1 .0) (p .ensures .0) (p .ensures .1 .0)
 
 pub drive-spec : {M : Type 1} → statement M
 drive-spec =

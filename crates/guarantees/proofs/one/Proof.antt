@@ -18,7 +18,7 @@ returns : tie.Need-returns
 returns c =
     let v = c .before .before .before .before .before .before .before .before .before .before .before .args in
     let r = c .before .before .before .before .register in
-    reports (v .s) (v .code) (v .a .now) (v .b .now) (v .cells .now) _ _ (r .result) (c .before .before .before .before .before .before .before .if1 .taken) (r .ensures .0) (r .ensures .1 .0) (r .ensures .1 .1)
+    reports (v .s) (v .code) (v .a .now) (v .b .now) (v .cells .now) _ _ (r .result) (c .before .before .before .before .before .before .before .if1 .taken) (r .ensures .0) (r .ensures .1 .0) (r .ensures .1 .1 .0)
 
 profile-requires : tie.Need-profile-requires
 profile-requires c κs = search needs
@@ -30,7 +30,7 @@ returns-2 : tie.Need-returns-2
 returns-2 c =
     let v = c .before .before .before .before .before .before .before .before .before .args in
     let p = c .before .before .profile in
-    profiles (v .s) (v .code) (v .a .now) (v .b .now) (v .cells .now) _ (p .result) (c .before .before .before .before .if2 .taken) (p .ensures .0) (p .ensures .1)
+    profiles (v .s) (v .code) (v .a .now) (v .b .now) (v .cells .now) _ (p .result) (c .before .before .before .before .if2 .taken) (p .ensures .0) (p .ensures .1 .0)
 
 sub-push : tie.Need-sub-push
 sub-push c = search needs
@@ -41,7 +41,7 @@ push-requires c κs = search needs
 returns-3 : tie.Need-returns-3
 returns-3 c =
     let v = c .before .before .before .before .before .before .before .args in
-    pushes (v .s) (v .code) (v .a .now) (v .b .now) (v .cells .now) (c .before .push .result) (c .before .before .before .if1 .left) (c .before .before .if2 .left) (c .before .push .ensures)
+    pushes (v .s) (v .code) (v .a .now) (v .b .now) (v .cells .now) (c .before .push .result) (c .before .before .before .if1 .left) (c .before .before .if2 .left) (c .before .push .ensures .0)
 
 pub one-spec : {M : Type 1} → statement M
 one-spec =
