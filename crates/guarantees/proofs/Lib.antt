@@ -2,5 +2,6 @@ pub mod State
 pub mod Demand
 pub mod Records
 pub mod Cases
+pub mod Numbers
 pub mod Driving
 pub mod Testing
