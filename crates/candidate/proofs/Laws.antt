@@ -1,7 +1,6 @@
 -- Laws of candidates: what is well formed has no flaw, what generates the terms passes, and what the loops of a test and of a run know.
 -- Assumes nothing.
 use mathlib.Core.Path.{_≡_, refl, sym, ap, ap₂, _∙_}
-use mathlib.Core.Logic.{_⊎_, inl, inr}
 use mathlib.Core.Bool.{Bool, true, false, not}
 use mathlib.Core.List.{List}
 use Prim.Native.Nat.{ℕ, zero, suc, _+_, _*_, _-_, _%_, _≤_, _<_, min}
@@ -14,7 +13,7 @@ use borrow.Author.Tests.{ltb-true, ltb-false, eqb-true, lt-ltb, le-ltb, eq-eqb, 
 use Rattle.lists.specs.Choice.{pick}
 use Rattle.lists.specs.Table.{at}
 use Rattle.lists.specs.Sum.{sumTo}
-use Rattle.lists.proofs.Search.{false-true, all-true, all-at, none-first, lt-or-le}
+use Rattle.lists.proofs.Search.{false-true, all-true, all-at, none-first}
 use Rattle.lists.proofs.Sum.{sumTo-more}
 use Rattle.residue.specs.Congruence.{neg}
 use Rattle.cells.specs.Cell.{cellAt, cellsFrom}

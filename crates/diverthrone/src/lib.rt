@@ -3,7 +3,6 @@ use candidate::Verdict;
 use catalogue::LookedUp;
 use sequence::Outcome;
 ghost use mathlib.Core.Path.{_≡_};
-ghost use Prim.Native.Nat.{_≤_, _<_};
 ghost use Rattle.sequence.specs.Report.{filled};
 ghost use Rattle.candidate.specs.Rules.{verifyAnswer, generateOf, generateAnswer, generatedIn};
 ghost use Rattle.catalogue.specs.Rules.{recordOf, synthesizeOf, synthesizeAnswer, lookUpOf, lookUpAnswer, servedIn};

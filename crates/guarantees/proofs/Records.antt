@@ -32,12 +32,12 @@ use Rattle.sequence.specs.Rules.{openOf, sequenceOf, checkOf, IsSound}
 use Rattle.sequence.specs.Report.{registerOf, aBuffer, bBuffer, reportOf, written, filled}
 use Rattle.sequence.proofs.Laws.{check-done}
 use Rattle.candidate.specs.declared.Verdict.the-variants as W
-use Rattle.candidate.specs.Rules.{aCells, bCells, judgeOf, verifyOf}
+use Rattle.candidate.specs.Rules.{aCells, bCells, judgeOf}
 use Rattle.candidate.proofs.Laws.{IsFine, of-fine, no-difference}
 use Rattle.catalogue.specs.declared.LookedUp.{LookedUp}
 use Rattle.catalogue.specs.declared.LookedUp.the-variants.{Found, Made}
 use Rattle.catalogue.specs.Rules.{recordBytes, recordOf, synthesizeOf, recordAt, queryAt, records, firstMatch, matchOf, passes, serveOf, answerOf, lookUpOf, servedIn}
-use Rattle.catalogue.proofs.Places.{length-a, length-b, layout-query, layout-a, layout-b, layout-length-cell}
+use Rattle.catalogue.proofs.Places.{layout-query, layout-a, layout-b, layout-length-cell}
 use Rattle.guarantees.specs.Calls.{Call, push, afterAll, taken}
 use Rattle.guarantees.specs.Claims.{MadeRecord, MadeCatalogue, termsOf, AgreesWith, MadeServedReported}
 use Rattle.guarantees.proofs.State.{holding, padded, padded-at, Good, state, all-pushed}

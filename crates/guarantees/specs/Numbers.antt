@@ -5,7 +5,6 @@ use mathlib.Core.List.{List, [], _∷_, _++_}
 use Prim.Native.Nat.{ℕ, _*_, _-_}
 use Rattle.lists.specs.Table.{at, tabulate}
 use Rattle.cells.specs.Cell.{bytesOf}
-use Rattle.sequence.specs.declared.Sequence.{Sequence}
 use Rattle.sequence.specs.Limits.{maxTerms, queryBytes}
 use Rattle.sequence.specs.Answers.{refused}
 use Rattle.sequence.specs.Rules.{openOf, pushAnswer, queryOf}

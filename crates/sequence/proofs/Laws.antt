@@ -15,7 +15,6 @@ use Rattle.lists.specs.Table.{at}
 use Rattle.lists.proofs.Search.{false-true, lt-or-le, first-none, none-first, all-at, all-true}
 use Rattle.sequence.specs.declared.Sequence.{Sequence}
 use Rattle.sequence.specs.declared.Refusal.the-variants as R
-use Rattle.sequence.specs.declared.Outcome.{Outcome}
 use Rattle.sequence.specs.declared.Outcome.the-variants.{Done, Refused}
 use Rattle.sequence.specs.declared.Checked.{Checked}
 use Rattle.sequence.specs.declared.Fault.{Fault}

@@ -68,6 +68,7 @@ fresh m = record { modulus = m; count = 0; terms = replicate maxTerms 0 }
 unfoldable pub openOf : ℕ → Opened
 openOf m = pick (outside m) (record { sequence = fresh 0; outcome = Refused R.Modulus }) (record { sequence = fresh m; outcome = Done })
 
+-- the same by number; so below for each call
 abbrev pub openAnswer : ℕ → Answer
 openAnswer m = firstOf ((outside m, refused 1) ∷ []) (granted [])
 
@@ -110,7 +111,7 @@ checkOf query = pick (eqb (length query) queryBytes) (refusalOf (faultOf (sequen
 unfoldable pub checkedOf : List ℕ → Checked
 checkedOf query = record { sequence = pick (eqb (length query) queryBytes) (sequenceOf query) (fresh 0); outcome = checkOf query }
 
--- the same refusals by their numbers, for the calls that are handed a query
+-- the refusals of a query by number, for the calls that are handed one
 abbrev pub queryRefusals : List ℕ → List (Bool × Answer)
 queryRefusals query =
     (not (eqb (length query) queryBytes), refused 5)

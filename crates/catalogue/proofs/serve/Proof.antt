@@ -1,6 +1,5 @@
 -- `catalogue::serve` meets its contract: the record is copied where its register passes.
 -- Assumes nothing.
-use mathlib.Core.Path.{refl, _∙_}
 use Prim.Native.Nat.{_*_}
 use borrow.Author.Needs.{needs}
 use Rattle.catalogue.specs.Rules.{recordBytes}

@@ -1,9 +1,8 @@
 -- `sequence::check` meets its contract: the length first, then the faults of what it writes down.
 -- Assumes nothing.
-use mathlib.Core.Path.{ap, _∙_}
 use borrow.Author.Needs.{needs}
 use borrow.Author.Tests.{eq-eqb, ne-eqb}
-use Rattle.sequence.specs.Rules.{faultOf, refusalOf, checkOf, checkedOf}
+use Rattle.sequence.specs.Rules.{checkOf, checkedOf}
 use Rattle.sequence.proofs.check.Statement.{statement}
 use Rattle.sequence.proofs.check.Tie as tie
 

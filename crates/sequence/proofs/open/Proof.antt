@@ -1,8 +1,6 @@
 -- `sequence::open` meets its contract: each reply is the one that its test picks.
 -- Assumes nothing.
 use borrow.Author.Needs.{needs}
-use mathlib.Core.Path.{ap, _∙_}
-use Rattle.sequence.specs.declared.Opened.{Opened}
 use Rattle.sequence.specs.Rules.{openOf}
 use Rattle.sequence.proofs.Answers.{open-told}
 use Rattle.sequence.proofs.open.Statement.{statement}
