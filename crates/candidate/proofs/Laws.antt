@@ -16,6 +16,7 @@ use Rattle.lists.specs.Sum.{sumTo}
 use Rattle.lists.proofs.Search.{false-true, all-true, all-at, none-first}
 use Rattle.lists.proofs.Sum.{sumTo-more}
 use Rattle.residue.specs.Congruence.{neg}
+use Rattle.residue.specs.Reduction.{two48}
 use Rattle.cells.specs.Cell.{cellAt, cellsFrom}
 use Rattle.cells.proofs.Laws.{at-cells, Written, written-at}
 use Rattle.recurrence.specs.Polynomial.{conv}
@@ -77,19 +78,19 @@ fine-of m l a b h =
 -- ---- the loops that sum products
 
 -- a product of a 16-bit and a 32-bit number fits 48 bits
-pub product-small : (x y : ℕ) → x < 65536 → y < 4294967296 → x * y ≤ 281474976710656
+pub product-small : (x y : ℕ) → x < 65536 → y < 4294967296 → x * y ≤ two48
 product-small x y h k = mul-le-mul {n₁ = x} {m₁ = y} {n₂ = 65536} {m₂ = 4294967296} (omega arith) (omega arith)
 
 -- the sum of the first i products by the rule f: it fits while i is small
 pub record Summed (f : ℕ → ℕ) (i sum : ℕ) : Type 0 where
   pub is : sum ≡ sumTo i f
-  pub small : sum ≤ i * 281474976710656
+  pub small : sum ≤ i * two48
 
 pub summed-none : {f : ℕ → ℕ} → Summed f 0 0
 unfolding sumTo
 summed-none = record { is = refl; small = omega arith }
 
-pub summed-more : {f : ℕ → ℕ} {i sum : ℕ} (x : ℕ) → Summed f i sum → x ≡ f i → x ≤ 281474976710656 → Summed f (i + 1) (sum + x)
+pub summed-more : {f : ℕ → ℕ} {i sum : ℕ} (x : ℕ) → Summed f i sum → x ≡ f i → x ≤ two48 → Summed f (i + 1) (sum + x)
 summed-more {f} {i} {sum} x s e h = record { is = ap₂ _+_ (s .is) e ∙ sym (sumTo-more i f); small = omega (arith, s .small) }
 
 -- ---- testing
@@ -102,17 +103,20 @@ pub is-place : (S a : List ℕ) (j i x r : ℕ) → i < maxCells → x ≡ cellA
 is-place S a j i x r h e p = p ∙ ap (λ (z : ℕ). z * at S (j - i)) (e ∙ sym (at-cells a maxCells i h))
 
 -- the test of place j, once its products are summed
-module _ (S a b : List ℕ) (m j i sum x : ℕ) (s : Summed (places S a j) i sum) (past : j < i) (within : i ≤ j + 1) (e : x ≡ at b j) where
+module _ (S a b : List ℕ) (m j i sum r x : ℕ) (s : Summed (places S a j) i sum) (past : j < i) (within : i ≤ j + 1) (d : r ≡ sum % m) (e : x ≡ at b j) where
   whole : sum ≡ conv (at S) (at a) j
   whole =
       let last : i ≡ suc j = omega arith in
       s .is ∙ ap (λ (k : ℕ). sumTo k (places S a j)) last ∙ sym (conv-sum (at a) (at S) j) ∙ conv-comm (at a) (at S) j
 
-  pub agrees : sum % m ≡ x → not (eqb (conv (at S) (at a) j % m) (at b j)) ≡ false
-  agrees h = ap not (eq-eqb (conv (at S) (at a) j % m) (at b j) (ap (λ (z : ℕ). z % m) (sym whole) ∙ h ∙ e))
+  rest : r ≡ conv (at S) (at a) j % m
+  rest = d ∙ ap (λ (z : ℕ). z % m) whole
 
-  pub differs : (sum % m ≡ x → ⊥) → not (eqb (conv (at S) (at a) j % m) (at b j)) ≡ true
-  differs h = ap not (ne-eqb (conv (at S) (at a) j % m) (at b j) (λ q. h (ap (λ (z : ℕ). z % m) whole ∙ q ∙ sym e)))
+  pub agrees : r ≡ x → not (eqb (conv (at S) (at a) j % m) (at b j)) ≡ false
+  agrees h = ap not (eq-eqb (conv (at S) (at a) j % m) (at b j) (sym rest ∙ h ∙ e))
+
+  pub differs : (r ≡ x → ⊥) → not (eqb (conv (at S) (at a) j % m) (at b j)) ≡ true
+  differs h = ap not (ne-eqb (conv (at S) (at a) j % m) (at b j) (λ q. h (rest ∙ q ∙ sym e)))
 
 -- ---- running
 
@@ -128,13 +132,13 @@ is-back a out j i x y r h k e f p =
     (f ∙ sym (at-cells out j (j - (i + 1)) (omega arith)) ∙ ap (λ (z : ℕ). at (cellsFrom out 0 j) (j - z)) (add-one i))
 
 pub is-next :
-    (m l : ℕ) (a b cells : List ℕ) (j i sum x r : ℕ) → i ≡ min l j → sum ≡ sumTo i (backs a cells j) → x ≡ at b j
-    → r ≡ (x + neg m (sum % m)) % m → r ≡ cell m l a b cells j
+    (m l : ℕ) (a b cells : List ℕ) (j i sum y x r : ℕ) → i ≡ min l j → sum ≡ sumTo i (backs a cells j) → y ≡ sum % m → x ≡ at b j
+    → r ≡ (x + neg m y) % m → r ≡ cell m l a b cells j
 unfolding cell neg
-is-next m l a b cells j i sum x r hi hs hx hr =
+is-next m l a b cells j i sum y x r hi hs hy hx hr =
     hr
     ∙ ap₂ (λ (y z : ℕ). (y + (m - z)) % m) hx
-    (mod-mod sum m ∙ ap (λ (z : ℕ). z % m) (hs ∙ ap (λ (k : ℕ). sumTo k (backs a cells j)) hi))
+    (ap (λ (z : ℕ). z % m) hy ∙ mod-mod sum m ∙ ap (λ (z : ℕ). z % m) (hs ∙ ap (λ (k : ℕ). sumTo k (backs a cells j)) hi))
 
 -- as many bytes as the cells of a run take
 pub run-fits : (m l : ℕ) (a b : List ℕ) (n : ℕ) (out : List ℕ) → length out ≡ 2 * n → length out ≡ 2 * length (generated m l a b n)

@@ -8,6 +8,7 @@ ghost use mathlib.Core.Path.{_≡_};
 ghost use Prim.Native.Nat.{ℕ, _+_, _*_, _/_, _≤_, _<_, min};
 ghost use lib.ListN.{length};
 ghost use Rattle.lists.specs.Table.{at};
+ghost use Rattle.residue.specs.Reduction.{two48};
 ghost use Rattle.cells.specs.Cell.{cellsFrom, bytesOf};
 ghost use Rattle.recurrence.specs.Running.{cell, generated, firstDifference};
 ghost use Rattle.sequence.specs.Limits.{maxTerms, aBytes, bBytes};
@@ -100,7 +101,7 @@ fn is_fine(m: u32, l: u32, a: &[u8], b: &[u8]) -> bool
 // A coefficient times a term or a cell. 129 of these fit a u64.
 fn product(x: u32, y: u32) -> u64
     requires { ⌜ x < 65536 ⌝ }
-    ensures { λ r. ⌜ (r ≡ x * y) × (r ≤ 281474976710656) ⌝ }
+    ensures { λ r. ⌜ (r ≡ x * y) × (r ≤ two48) ⌝ }
 {
     (x as u64) * (y as u64)
 }
@@ -119,7 +120,7 @@ fn first_difference(terms: &[u32; TERMS], a: &[u8], b: &[u8], n: usize, m: u32) 
         let mut i: usize = 0;
         loop {
             if j < i {
-                if (sum % (m as u64)) as u32 == cells::cell(b, j) {
+                if residue::remainder(sum, m) == cells::cell(b, j) {
                     break;
                 }
                 break 'places j;
@@ -190,7 +191,7 @@ fn next_cell(m: u32, a: &[u8], b: &[u8], l: usize, out: &[u8], j: usize) -> u32
         sum += product(cells::cell(a, i + 1), cells::cell(out, j - (i + 1)));
         i += 1;
     }
-    residue::sub(cells::cell(b, j), (sum % (m as u64)) as u32, m)
+    residue::sub(cells::cell(b, j), residue::remainder(sum, m), m)
 }
 
 // Runs a candidate: fills n cells.

@@ -2,7 +2,7 @@
 -- Assumes nothing.
 use mathlib.Core.Path.{_≡_, refl, sym, ap, ap₂, _∙_}
 use Prim.Native.Nat.{ℕ, zero, suc, _+_, _*_, _-_, _/_, _%_, _^_, _≤_, _<_, _∣_}
-use native.Mathlib.Nat.{mod-add-div', add-mul-mod-self-right, add-mod, add-mod-right, mod-mod, mod-eq-sub-mod, mod-eq-of-lt, mod-lt, zero-mod, mod-self, mul-mod-left}
+use native.Mathlib.Nat.{mod-add-div', add-mul-mod-self-right, add-mod, add-mod-right, mod-mod, mod-eq-of-lt, mod-lt, zero-mod, mod-self, mul-mod-left}
 use native.Mathlib.Nat.{mod-mod-of-dvd, dvd-of-mod-eq-zero, dvd-mul-right, dvd-mul-left, mul-comm, one-le-pow, pow-suc, pow-le-pow-right, mul-lt-mul-of-pos-left, lt-of-lt-of-le}
 use native.Mathlib.Omega.{arith}
 use lib.Pow.{pow-add}
@@ -126,12 +126,9 @@ cong-divisor d q {x} {y} z h =
     dq : d ∣ q
     dq = dvd-of-mod-eq-zero d {n = q} z
 
--- ---- sums and differences of numbers below m, with no division
+-- ---- differences of numbers below m, with no division
 
 module _ (x y m : ℕ) (hx : x < m) (hy : y < m) where
-  pub sum-over : m ≤ x + y → x + y - m ≡ (x + y) % m
-  sum-over h = sym (mod-eq-sub-mod h ∙ mod-eq-of-lt (omega arith))
-
   neg-below : neg m y ≡ m - y
   unfolding neg
   neg-below = ap (λ (k : ℕ). m - k) (mod-eq-of-lt hy)

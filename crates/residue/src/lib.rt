@@ -18,19 +18,7 @@ pub const LIMIT: usize = 4096;
 // 2^48. To divide by it is a shift.
 const TWO_48: u64 = 281474976710656;
 
-// The sum modulo m. Both are below m, so one comparison takes the place of a division.
-pub fn add(x: u32, y: u32, m: u32) -> u32
-    requires { ⌜ (x < m) × (y < m) × (m < 65536) ⌝ }
-    ensures { λ r. ⌜ r ≡ (x + y) % m ⌝ }
-{
-    let s = x + y;
-    if s < m {
-        return s;
-    }
-    s - m
-}
-
-// The difference modulo m, likewise.
+// The difference modulo m. Both are below m, so one comparison takes the place of a division.
 pub fn sub(x: u32, y: u32, m: u32) -> u32
     requires { ⌜ (x < m) × (y < m) × (m < 65536) ⌝ }
     ensures { λ r. ⌜ r ≡ (x + neg m y) % m ⌝ }
@@ -49,12 +37,12 @@ pub fn mul(x: u32, y: u32, m: u32) -> u32
     (x * y) % m
 }
 
-// A product added to s, modulo m: one division for both. The sum still fits 32 bits.
-pub fn mul_add(s: u32, x: u32, y: u32, m: u32) -> u32
-    requires { ⌜ (s < 65536) × (x < 65536) × (y < 65536) × (0 < m) × (m < 65536) ⌝ }
-    ensures { λ r. ⌜ r ≡ (s + x * y) % m ⌝ }
+// The remainder of a number of 64 bits: a sum of many products takes one division.
+pub fn remainder(x: u64, q: u32) -> u32
+    requires { ⌜ 0 < q ⌝ }
+    ensures { λ r. ⌜ r ≡ x % q ⌝ }
 {
-    (s + x * y) % m
+    (x % (q as u64)) as u32
 }
 
 // What Euclid's division finds for a and m: a x + m y = 1 + a m.

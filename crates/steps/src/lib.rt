@@ -43,7 +43,7 @@ pub fn coefficient(a: &[u32; CELLS], s: &[u32; TERMS], l: usize, k: usize, q: u3
         sum += (a[i] as u64) * (s[k - i] as u64);
         i += 1;
     }
-    (sum % (q as u64)) as u32
+    residue::remainder(sum, q)
 }
 
 // Adds f times the first n places of y, moved up s places, to x, modulo q.
@@ -232,8 +232,11 @@ fn settle(
         len[i] = n;
         when[i] = k;
         reach[i] = k + 1 - n;
-        mult[i] = residue::inverse(ts[g], ring.q) * residue::power(ring.p, ring.e - 1 - i - us[g])
-            % ring.q;
+        mult[i] = residue::mul(
+            residue::inverse(ts[g], ring.q),
+            residue::power(ring.p, ring.e - 1 - i - us[g]),
+            ring.q,
+        );
         i += 1;
     }
 }

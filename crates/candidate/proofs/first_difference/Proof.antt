@@ -3,7 +3,7 @@
 use mathlib.Core.Path.{_≡_, sym, _∙_}
 use mathlib.Core.Bool.{not, false}
 use Prim.Native.Nat.{ℕ, _+_, _-_, _%_, _≤_, _<_}
-use native.Mathlib.Nat.{not-suc-le-zero, le-refl, lt-irrefl, mod-lt}
+use native.Mathlib.Nat.{not-suc-le-zero, le-refl, lt-irrefl}
 use native.Mathlib.Omega.{arith}
 use lib.Dec.{eqb}
 use borrow.Author.Count.{below-more}
@@ -37,11 +37,8 @@ places-holds c = λ k h. absurd (not-suc-le-zero h)
 loop-holds : tie.Need-loop-holds Inv-loop μ-loop Inv-places μ-places
 loop-holds c = (summed-none, search needs)
 
-rem-if3 : tie.Need-rem-if3 Inv-loop μ-loop Inv-places μ-places
-rem-if3 c = search needs
-
-cast-if3 : tie.Need-cast-if3 Inv-loop μ-loop Inv-places μ-places
-cast-if3 c = omega (arith, mod-lt (c .before .loop .sum) (c .before .before .before .before .before .before .pre .1))
+remainder-requires : tie.Need-remainder-requires Inv-loop μ-loop Inv-places μ-places
+remainder-requires c κs = search needs
 
 cell-requires : tie.Need-cell-requires Inv-loop μ-loop Inv-places μ-places
 cell-requires c κs = search needs
@@ -87,12 +84,12 @@ places-less c = search needs
 
 places-again : tie.Need-places-again Inv-loop μ-loop Inv-places μ-places
 places-again c =
-    let l = c .before .before .before in
+    let l = c .before .before .before .before in
     let p = l .before .before in
     let v = p .before .before .before .args in
     below-more _ _ (p .places .inv)
-    (agrees (v .terms .now) (aCells (v .a .now)) (bCells (v .b .now)) (v .m) (p .places .j) (l .loop .i) (l .loop .sum) _ (l .loop .inv .0) (c .before .before .if2 .taken) (l .loop .inv .1)
-    (c .before .cell .ensures .0 ∙ sym (at-cells (v .b .now) maxTerms (p .places .j) (omega arith))) (c .if3 .taken))
+    (agrees (v .terms .now) (aCells (v .a .now)) (bCells (v .b .now)) (v .m) (p .places .j) (l .loop .i) (l .loop .sum) _ _ (l .loop .inv .0) (c .before .before .before .if2 .taken) (l .loop .inv .1)
+    (c .before .before .remainder .ensures) (c .before .cell .ensures .0 ∙ sym (at-cells (v .b .now) maxTerms (p .places .j) (omega arith))) (c .if3 .taken))
 
 returns : tie.Need-returns Inv-loop μ-loop Inv-places μ-places
 unfolding firstDifference
@@ -101,12 +98,12 @@ returns c = is-first _ _ _ (le-refl _) (λ k h. c .before .places .inv k (omega 
 returns-2 : tie.Need-returns-2 Inv-loop μ-loop Inv-places μ-places
 unfolding firstDifference
 returns-2 c =
-    let l = c .before .before .before in
+    let l = c .before .before .before .before in
     let p = l .before .before in
     let v = p .before .before .before .args in
     is-first _ _ _ (omega arith) (p .places .inv) λ h.
-    differs (v .terms .now) (aCells (v .a .now)) (bCells (v .b .now)) (v .m) (p .places .j) (l .loop .i) (l .loop .sum) _ (l .loop .inv .0) (c .before .before .if2 .taken) (l .loop .inv .1)
-    (c .before .cell .ensures .0 ∙ sym (at-cells (v .b .now) maxTerms (p .places .j) (omega arith))) (c .if3 .left)
+    differs (v .terms .now) (aCells (v .a .now)) (bCells (v .b .now)) (v .m) (p .places .j) (l .loop .i) (l .loop .sum) _ _ (l .loop .inv .0) (c .before .before .before .if2 .taken) (l .loop .inv .1)
+    (c .before .before .remainder .ensures) (c .before .cell .ensures .0 ∙ sym (at-cells (v .b .now) maxTerms (p .places .j) (omega arith))) (c .if3 .left)
 
 pub first-difference-spec : {M : Type 1} → statement M
 first-difference-spec =
@@ -118,8 +115,7 @@ first-difference-spec =
     μ-places
     places-holds
     loop-holds
-    rem-if3
-    cast-if3
+    remainder-requires
     cell-requires
     cell-requires-2
     mul-product

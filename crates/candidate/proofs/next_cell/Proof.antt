@@ -68,24 +68,21 @@ loop-again c =
 cell-requires-3 : tie.Need-cell-requires-3 Inv-loop μ-loop
 cell-requires-3 c κs = search needs
 
-rem-sub : tie.Need-rem-sub Inv-loop μ-loop
-rem-sub c = search needs
-
-cast-sub : tie.Need-cast-sub Inv-loop μ-loop
-cast-sub c = omega (arith, mod-lt (c .before .before .loop .sum) (c .before .before .before .before .before .before .before .pre .0))
+remainder-requires : tie.Need-remainder-requires Inv-loop μ-loop
+remainder-requires c κs = search needs
 
 sub-requires : tie.Need-sub-requires Inv-loop μ-loop
 sub-requires c κs =
-    let s = c .before .before .before .before .before .before .before in
+    let s = c .before .before .before .before .before .before .before .before in
     let v = s .args in
-    (omega (arith, at-cells (v .b .now) maxTerms (v .j) (s .pre .5)), mod-lt _ (s .pre .0), s .pre .1)
+    (omega (arith, at-cells (v .b .now) maxTerms (v .j) (s .pre .5)), rw (c .remainder .ensures) (mod-lt _ (s .pre .0)), s .pre .1)
 
 returns : tie.Need-returns Inv-loop μ-loop
 returns c =
-    let v = c .before .before .before .before .before .before .before .before .args in
-    let l = c .before .before .before in
-    is-next (v .m) (v .l) (aCells (v .a .now)) (bCells (v .b .now)) (cellsFrom (v .out .now) 0 (v .j)) (v .j) (l .loop .i) (l .loop .sum) (c .before .cell3 .result) _ (omega arith) (l .loop .inv .0 .is)
-    (c .before .cell3 .ensures .0 ∙ sym (at-cells (v .b .now) maxTerms (v .j) (omega arith))) (c .sub .ensures)
+    let v = c .before .before .before .before .before .before .before .before .before .args in
+    let l = c .before .before .before .before in
+    is-next (v .m) (v .l) (aCells (v .a .now)) (bCells (v .b .now)) (cellsFrom (v .out .now) 0 (v .j)) (v .j) (l .loop .i) (l .loop .sum) (c .before .remainder .result) (c .before .before .cell3 .result) _ (omega arith) (l .loop .inv .0 .is)
+    (c .before .remainder .ensures) (c .before .before .cell3 .ensures .0 ∙ sym (at-cells (v .b .now) maxTerms (v .j) (omega arith))) (c .sub .ensures)
 
 pub next-cell-spec : {M : Type 1} → statement M
 next-cell-spec =
@@ -106,7 +103,6 @@ next-cell-spec =
     loop-less
     loop-again
     cell-requires-3
-    rem-sub
-    cast-sub
+    remainder-requires
     sub-requires
     returns)

@@ -2,7 +2,6 @@
 -- Assumes nothing.
 use mathlib.Core.Path.{_≡_, refl, sym, ap, _∙_}
 use Prim.Native.Nat.{ℕ, suc, _≤_, _+_, _*_, _-_, _%_}
-use native.Mathlib.Nat.{mod-lt}
 use native.Mathlib.Omega.{arith}
 use Rattle.lists.specs.Table.{at}
 use Rattle.lists.specs.Sum.{sumTo}
@@ -71,19 +70,18 @@ loop-again c =
           ∙ sym (sumTo-more (l .i) (summand (at (z .args .a .now)) (at (z .args .s .now)) (z .args .k))),
     )
 
-rem-result : tie.Need-rem-result Inv-loop μ-loop
-rem-result c = omega arith
-
-cast-result : tie.Need-cast-result Inv-loop μ-loop
-cast-result c = omega (arith, mod-lt (c .before .loop .sum) {m = c .before .before .args .q} (omega arith))
+remainder-requires : tie.Need-remainder-requires Inv-loop μ-loop
+remainder-requires c κs = c .before .before .pre .2
 
 returns : tie.Need-returns Inv-loop μ-loop
 returns c =
-    let z = c .before .before in
+    let z = c .before .before .before in
+    let l = c .before .before .loop in
     let f = at (z .args .a .now) in
     let g = at (z .args .s .now) in
-    ap (λ (x : ℕ). x % z .args .q)
-    (c .before .loop .inv .1 ∙ ap (λ (n : ℕ). sumTo n (summand f g (z .args .k))) (let e : c .before .loop .i ≡ suc (z .args .l) = omega arith in e)
+    c .remainder .ensures
+    ∙ ap (λ (x : ℕ). x % z .args .q)
+    (l .inv .1 ∙ ap (λ (n : ℕ). sumTo n (summand f g (z .args .k))) (let e : l .i ≡ suc (z .args .l) = omega arith in e)
     ∙ sum-stop f g (z .args .k) (z .args .l) (omega arith) (z .pre .5))
 
 pub coefficient-spec : {M : Type 1} → statement M
@@ -105,6 +103,5 @@ coefficient-spec =
     add-i
     loop-less
     loop-again
-    rem-result
-    cast-result
+    remainder-requires
     returns)

@@ -1,11 +1,10 @@
 -- `steps::settle` meets its contract.
 -- Assumes nothing.
-use mathlib.Core.Path.{_≡_, refl, sym, ap₂, subst}
+use mathlib.Core.Path.{_≡_, refl, sym, ap₂, subst, _∙_}
 use Prim.Native.Nat.{ℕ, _≤_, _<_, _*_, _-_, _%_, _^_}
 use native.Mathlib.Nat.{le-refl, pow-le-pow-right}
 use native.Mathlib.Omega.{arith}
 use Rattle.lists.specs.Table.{at}
-use Rattle.residue.proofs.Reduction.{product-low}
 use Rattle.residue.proofs.Units.{inverse-lt, coprime-invertible}
 use Rattle.steps.specs.Passes.{Settling}
 use Rattle.steps.proofs.Passes.{settle-skip, settle-next}
@@ -164,8 +163,8 @@ power-requires c κs =
     let x = a .ring .e - 1 - l .i - at (a .us .now) (a .ring .e - 1 - at (a .us .now) (l .i)) in
     (z .pre .4, omega (arith, pow-le-pow-right {n = a .ring .p} (z .pre .4) {i = x} {j = a .ring .e} (omega arith)))
 
-mul-mult : tie.Need-mul-mult Inv-loop μ-loop
-mul-mult c =
+mul-requires : tie.Need-mul-requires Inv-loop μ-loop
+mul-requires c κs =
     let z = c .before .before .before .before .before .before .before .before .before .before .before .before .before .before in
     let a = z .args in
     let l = c .before .before .before .before .before .before .before .before .before .before .before .before .before .loop in
@@ -176,13 +175,10 @@ mul-mult c =
     let up : a .ring .p ^ x ≤ a .ring .p ^ a .ring .e = pow-le-pow-right {n = a .ring .p} (z .pre .4) {i = x} {j = a .ring .e} (omega arith) in
     let low : c .before .before .before .inverse .result < a .ring .q
     = subst (λ (y : ℕ). y < a .ring .q) (sym (c .before .before .before .inverse .ensures)) (inverse-lt (a .ring .q) t (z .pre .3) (coprime-invertible t (a .ring .q) (g .some-unit (omega arith)) (z .pre .3) (g .coprime (omega arith)))) in
-    omega (arith, product-low (c .before .before .before .inverse .result) (c .power .result) (omega arith) (omega (arith, c .power .ensures)))
+    (omega arith, omega (arith, c .power .ensures), z .pre .3, z .pre .2)
 
-rem-mult : tie.Need-rem-mult Inv-loop μ-loop
-rem-mult c = omega arith
-
-mul-mult-2 : tie.Need-mul-mult-2 Inv-loop μ-loop
-mul-mult-2 c = omega arith
+mul-mult : tie.Need-mul-mult Inv-loop μ-loop
+mul-mult c = omega arith
 
 element-write-mult : tie.Need-element-write-mult Inv-loop μ-loop
 element-write-mult c = omega arith
@@ -201,8 +197,8 @@ loop-again-2 c =
     let test : l .i < a .ring .e = c .before .before .before .before .before .before .before .before .before .before .before .before .if1 .taken in
     let rose : at (l .len) (l .i) < at (a .next .now) (l .i) = c .before .before .before .before .before .before .before .before .before .if2 .left in
     let same : at (l .len) (l .i) ≡ at (a .len .now) (l .i) = l .inv .0 .todo-len (l .i) (le-refl (l .i)) in (
-      settle-next (a .ring) (a .k) (a .saved .now) (a .next .now) (a .us .now) (a .ts .now) (a .old .now) (a .len .now) (a .when .now) (a .reach .now) (a .mult .now) (l .old) (l .len) (l .when) (l .reach) (l .mult) (l .i) (c .before .before .before .before .inverse .result * c .before .power .result % a .ring .q) (l .inv .0) (omega arith) (z .pre .8) (omega arith)
-          (ap₂ (λ (x y : ℕ). x * y % a .ring .q) (c .before .before .before .before .inverse .ensures) (c .before .power .ensures)),
+      settle-next (a .ring) (a .k) (a .saved .now) (a .next .now) (a .us .now) (a .ts .now) (a .old .now) (a .len .now) (a .when .now) (a .reach .now) (a .mult .now) (l .old) (l .len) (l .when) (l .reach) (l .mult) (l .i) (c .mul .result) (l .inv .0) (omega arith) (z .pre .8) (omega arith)
+          (c .mul .ensures ∙ ap₂ (λ (x y : ℕ). x * y % a .ring .q) (c .before .before .before .before .inverse .ensures) (c .before .power .ensures)),
       omega arith,
     )
 
@@ -252,9 +248,8 @@ settle-spec =
     element-copy-out-power
     sub-power-3
     power-requires
+    mul-requires
     mul-mult
-    rem-mult
-    mul-mult-2
     element-write-mult
     add-i-2
     loop-less-2
