@@ -1,72 +1,41 @@
--- The definitions held against numbers of the papers, by computation: the worked example of Reeds and Sloane (Tables 1 and 2) and the scope's cases.
+-- The definitions held against numbers of the papers, by computation: the worked example of Reeds and Sloane (Tables 1 and 2), and the
+-- scope's example of the compact version of the steps.
 -- Assumes nothing.
 use mathlib.Core.Path.{_≡_, refl}
 use mathlib.Core.List.{List, [], _∷_, map}
-use Prim.Native.Nat.{ℕ, suc}
-use lib.ListN.{length}
-use Rattle.lists.specs.Table.{at, tabulate, largest}
-use Rattle.lists.specs.Search.{first, every}
-use Rattle.lists.specs.Sum.{sumTo}
+use Prim.Native.Nat.{ℕ}
+use Rattle.lists.specs.Table.{at, tabulate}
+use Rattle.lists.specs.Search.{first}
 use Rattle.residue.specs.Congruence.{neg}
 use Rattle.residue.specs.Units.{inverse}
 use Rattle.residue.specs.Valuation.{valuation, cofactor}
-use Rattle.residue.specs.Factors.{leastDivisor, leastPower, powersUpTo, primePowers}
-use Rattle.residue.specs.Remainders.{joined}
 use Rattle.recurrence.specs.Polynomial.{conv, plus, times, up, top, degree, Pair, len}
 use Rattle.recurrence.specs.Steps.{discrepancy, Case, stays, added, cancelled, caseOf, partner, multiplier, change, remembered, older, noOlder, next, history, rowAt}
-use Rattle.recurrence.specs.Register.{Register, part, parts, complexity, coefficient, register}
-use Rattle.recurrence.specs.Running.{cell, generated, firstDifference}
 
--- the register for all of the terms, and the profile
-unfoldable pub shown : ℕ → List ℕ → Register
-unfolding tabulate largest first every conv plus times up top degree len discrepancy caseOf partner multiplier change remembered older noOlder next history rowAt neg inverse valuation cofactor leastDivisor leastPower powersUpTo primePowers joined part parts complexity coefficient register
-shown m S = register m S (length S)
-
-unfoldable pub profile : ℕ → List ℕ → List ℕ
-unfolding shown
-profile m S = tabulate (suc (length S)) (complexity m S)
-
--- the cases 1 to 9 and 12 of the scope, and its example against the longer version of the steps
-pub record Registers : Type 0 where
-  pub case1 : shown 2 [] ≡ record { length = 0; a = 1 ∷ []; b = [] }
-  pub case2 : shown 5 (0 ∷ 0 ∷ 0 ∷ []) ≡ record { length = 0; a = 1 ∷ []; b = [] }
-  pub case3 : shown 9 (6 ∷ 3 ∷ 1 ∷ 5 ∷ 6 ∷ []) ≡ record { length = 3; a = 1 ∷ 4 ∷ 7 ∷ 1 ∷ []; b = 6 ∷ 0 ∷ 1 ∷ [] }
-  pub case4 : profile 9 (6 ∷ 3 ∷ 1 ∷ 5 ∷ 6 ∷ []) ≡ 0 ∷ 1 ∷ 1 ∷ 3 ∷ 3 ∷ 3 ∷ []
-  pub case5 : shown 4 (2 ∷ 2 ∷ []) ≡ record { length = 1; a = 1 ∷ 3 ∷ []; b = 2 ∷ [] }
-  pub case6 : shown 4 (2 ∷ 1 ∷ []) ≡ record { length = 2; a = 1 ∷ 0 ∷ 0 ∷ []; b = 2 ∷ 1 ∷ [] }
-  pub case7 : shown 2 (0 ∷ 0 ∷ 1 ∷ []) ≡ record { length = 3; a = 1 ∷ 0 ∷ 0 ∷ 0 ∷ []; b = 0 ∷ 0 ∷ 1 ∷ [] }
-  pub case8 : shown 6 (3 ∷ 3 ∷ []) ≡ record { length = 1; a = 1 ∷ 3 ∷ []; b = 3 ∷ [] }
-  pub case9 : shown 7 (1 ∷ 1 ∷ 2 ∷ 3 ∷ 5 ∷ 1 ∷ []) ≡ record { length = 2; a = 1 ∷ 6 ∷ 6 ∷ []; b = 1 ∷ 0 ∷ [] }
-  pub case12 : shown 6 (1 ∷ 0 ∷ []) ≡ record { length = 1; a = 1 ∷ 0 ∷ []; b = 1 ∷ [] }
-  pub compact : shown 8 (6 ∷ 4 ∷ []) ≡ record { length = 1; a = 1 ∷ 6 ∷ []; b = 6 ∷ [] }
-
-pub registers : Registers
-unfolding shown profile
-registers = record { case1 = refl; case2 = refl; case3 = refl; case4 = refl; case5 = refl; case6 = refl; case7 = refl; case8 = refl; case9 = refl; case12 = refl; compact = refl }
-
--- cases 10 and 11: running case 9's register, and testing case 3's with a_3 = 2
-pub record Runs : Type 0 where
-  pub case10 : generated 7 2 (1 ∷ 6 ∷ 6 ∷ []) (1 ∷ 0 ∷ []) 6 ≡ 1 ∷ 1 ∷ 2 ∷ 3 ∷ 5 ∷ 1 ∷ []
-  pub case11 : firstDifference 9 (6 ∷ 3 ∷ 1 ∷ 5 ∷ 6 ∷ []) (1 ∷ 4 ∷ 7 ∷ 2 ∷ []) (6 ∷ 0 ∷ 1 ∷ []) 5 ≡ 3
-
-pub runs : Runs
-unfolding generated cell sumTo neg firstDifference first conv
-runs = record { case10 = refl; case11 = refl }
-
--- ---- Tables 1 and 2 of Reeds and Sloane
+-- row η before step k of the steps at p^e, ready to compute
+unfoldable pub pairAt : ℕ → ℕ → List ℕ → ℕ → ℕ → Pair
+unfolding tabulate first conv plus times up top degree len discrepancy caseOf partner multiplier change remembered older noOlder next history rowAt neg inverse valuation cofactor
+pairAt p e S η k = rowAt p e S η k
 
 -- a polynomial without zeros past its degree
 unfoldable pub trimmed : List ℕ → List ℕ
-unfolding shown
+unfolding pairAt
 trimmed xs = tabulate (top xs) (at xs)
+
+-- the compact version of the steps on 6, 4 modulo 8: a is 1, 6, where the longer version has 1, 2
+pub compact : trimmed (pairAt 2 3 (6 ∷ 4 ∷ []) 0 2 .a) ≡ 1 ∷ 6 ∷ []
+unfolding trimmed
+compact = refl
+
+-- ---- Tables 1 and 2 of Reeds and Sloane
 
 abbrev terms : List ℕ
 terms = 6 ∷ 3 ∷ 1 ∷ 5 ∷ 6 ∷ []
 
 -- the pair of row η before step k, modulo 9
 unfoldable pub table1 : ℕ → ℕ → Pair
-unfolding shown trimmed
-table1 η k = let w = rowAt 3 2 terms η k in record { a = trimmed (w .a); b = trimmed (w .b) }
+unfolding trimmed
+table1 η k = let w = pairAt 3 2 terms η k in record { a = trimmed (w .a); b = trimmed (w .b) }
 
 pub record Table1 : Type 0 where
   pub row00 : table1 0 0 ≡ record { a = 1 ∷ []; b = [] }
@@ -88,22 +57,22 @@ first-table = record { row00 = refl; row01 = refl; row02 = refl; row03 = refl; r
 
 -- l, u and θ of row η at step k; then f, which is the number g here, and the case
 unfoldable pub seen : ℕ → ℕ → List ℕ
-unfolding shown
-seen η k = let w = rowAt 3 2 terms η k in let d = discrepancy 9 terms k w in len w ∷ valuation 2 3 d ∷ cofactor 2 3 d ∷ []
+unfolding pairAt
+seen η k = let w = pairAt 3 2 terms η k in let d = discrepancy 9 terms k w in len w ∷ valuation 2 3 d ∷ cofactor 2 3 d ∷ []
 
 pub record Answer : Type 0 where
   pub g : ℕ
   pub case : Case
 
 unfoldable pub answered : ℕ → ℕ → Answer
-unfolding shown
+unfolding pairAt
 answered η k =
-    let d = discrepancy 9 terms k (rowAt 3 2 terms η k) in
-    record { g = partner 3 2 d; case = caseOf 2 (valuation 2 3 d) (len (rowAt 3 2 terms (partner 3 2 d) k)) }
+    let d = discrepancy 9 terms k (pairAt 3 2 terms η k) in
+    record { g = partner 3 2 d; case = caseOf 2 (valuation 2 3 d) (len (pairAt 3 2 terms (partner 3 2 d) k)) }
 
 unfoldable pub lengths : ℕ → List ℕ
-unfolding shown
-lengths k = map (λ η. len (rowAt 3 2 terms η k)) (0 ∷ 1 ∷ [])
+unfolding pairAt
+lengths k = map (λ η. len (pairAt 3 2 terms η k)) (0 ∷ 1 ∷ [])
 
 -- where the table has a star, nothing is compared; nor is f at k = 0, which is the longer version's
 pub record Table2 : Type 0 where
