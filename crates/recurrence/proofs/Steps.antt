@@ -15,7 +15,7 @@ use Rattle.residue.specs.Congruence.{Cong}
 use Rattle.residue.specs.Valuation.{valuation, cofactor}
 use Rattle.residue.proofs.Congruence.{rfl, add}
 use Rattle.recurrence.specs.Polynomial.{plus, times, up, Pair, len}
-use Rattle.recurrence.specs.Steps.{Rows, row, discrepancy, Case, stays, added, cancelled, caseOf, Older, noOlder, History, partner, multiplier, change, remembered, older, next, history, rowAt}
+use Rattle.recurrence.specs.Steps.{Rows, row, discrepancy, Case, stays, added, cancelled, caseOf, Older, noOlder, History, partner, multiplier, change, remembered, older, next, history, rowAt, d-at, u-at, θ-at, L-at, olderAt}
 use Rattle.recurrence.proofs.Pairs.{conv-cong}
 
 -- ---- the case
@@ -38,25 +38,9 @@ unfolding partner
 partner-le p e d = omega arith
 
 module _ (p e : ℕ) (S : List ℕ) where
-  -- the discrepancy of row η at step k, its u and θ, and the number of the row that answers it
-  abbrev pub d-at : ℕ → ℕ → ℕ
-  d-at η k = discrepancy (p ^ e) S k (rowAt p e S η k)
-
-  abbrev pub u-at : ℕ → ℕ → ℕ
-  u-at η k = valuation e p (d-at η k)
-
-  abbrev pub θ-at : ℕ → ℕ → ℕ
-  θ-at η k = cofactor e p (d-at η k)
-
+  -- the number of the row that answers row η at step k
   abbrev pub g-at : ℕ → ℕ → ℕ
-  g-at η k = e - 1 - u-at η k
-
-  abbrev pub L-at : ℕ → ℕ → ℕ
-  L-at η k = len (rowAt p e S η k)
-
-  -- what row g remembers before step k
-  unfoldable pub olderAt : ℕ → ℕ → Older
-  olderAt g k = older p e S g (history p e S k .now) (history p e S k .before)
+  g-at η k = e - 1 - u-at p e S η k
 
   steps-before : (k : ℕ) → length (history p e S k .before) ≡ k
   unfolding history
@@ -70,45 +54,45 @@ module _ (p e : ℕ) (S : List ℕ) where
   row-start η h = getD-tabulate e (λ η. record { a = p ^ η ∷ []; b = [] }) η _ h
 
   pub row-next : (η k : ℕ) → η < e
-      → rowAt p e S η (suc k) ≡ change p e (caseOf e (u-at η k) (L-at (g-at η k) k)) k (d-at η k) (rowAt p e S η k) (olderAt (g-at η k) k)
+      → rowAt p e S η (suc k) ≡ change p e (caseOf e (u-at p e S η k) (L-at p e S (g-at η k) k)) k (d-at p e S η k) (rowAt p e S η k) (olderAt p e S (g-at η k) k)
   unfolding rowAt history next olderAt partner
   row-next η k h = getD-tabulate e (next p e S k (history p e S k .now) (history p e S k .before)) η _ h
 
   -- ---- what is remembered
 
-  pub older-kept : (g k : ℕ) → L-at g (suc k) ≤ L-at g k → olderAt g (suc k) ≡ olderAt g k
+  pub older-kept : (g k : ℕ) → L-at p e S g (suc k) ≤ L-at p e S g k → olderAt p e S g (suc k) ≡ olderAt p e S g k
   unfolding olderAt older history rowAt
-  older-kept g k h = rw (le-ltb (L-at g k) (L-at g (suc k)) h, older)
+  older-kept g k h = rw (le-ltb (L-at p e S g k) (L-at p e S g (suc k)) h, older)
 
   -- the pair, u and θ of the row that answered row g at step k
   abbrev pub entry : ℕ → ℕ → Older
-  entry g k = record { pair = rowAt p e S (g-at g k) k; u = u-at (g-at g k) k; θ = θ-at (g-at g k) k; r = k }
+  entry g k = record { pair = rowAt p e S (g-at g k) k; u = u-at p e S (g-at g k) k; θ = θ-at p e S (g-at g k) k; r = k }
 
-  pub older-grown : (g k : ℕ) → L-at g k < L-at g (suc k) → olderAt g (suc k) ≡ entry g k
+  pub older-grown : (g k : ℕ) → L-at p e S g k < L-at p e S g (suc k) → olderAt p e S g (suc k) ≡ entry g k
   unfolding olderAt older history rowAt remembered partner
   older-grown g k h =
-      rw (lt-ltb (L-at g k) (L-at g (suc k)) h, older)
+      rw (lt-ltb (L-at p e S g k) (L-at p e S g (suc k)) h, older)
       (ap (λ (r : ℕ). remembered p e S (history p e S k .now) r g) (steps-before k))
 
   -- ---- a step by cases
 
   module _ (η k : ℕ) (h : η < e) where
-    pub next-stays : e ≤ u-at η k → rowAt p e S η (suc k) ≡ rowAt p e S η k
+    pub next-stays : e ≤ u-at p e S η k → rowAt p e S η (suc k) ≡ rowAt p e S η k
     unfolding change
     next-stays l =
         row-next η k h
-        ∙ ap (λ (c : Case). change p e c k (d-at η k) (rowAt p e S η k) (olderAt (g-at η k) k)) (case-stays e (u-at η k) (L-at (g-at η k) k) l)
+        ∙ ap (λ (c : Case). change p e c k (d-at p e S η k) (rowAt p e S η k) (olderAt p e S (g-at η k) k)) (case-stays e (u-at p e S η k) (L-at p e S (g-at η k) k) l)
 
-    pub next-added : u-at η k < e → L-at (g-at η k) k ≡ zero
-        → rowAt p e S η (suc k) ≡ record { a = rowAt p e S η k .a; b = plus (p ^ e) (rowAt p e S η k .b) (up k (d-at η k ∷ [])) }
+    pub next-added : u-at p e S η k < e → L-at p e S (g-at η k) k ≡ zero
+        → rowAt p e S η (suc k) ≡ record { a = rowAt p e S η k .a; b = plus (p ^ e) (rowAt p e S η k .b) (up k (d-at p e S η k ∷ [])) }
     unfolding change
     next-added l z =
         row-next η k h
-        ∙ ap (λ (c : Case). change p e c k (d-at η k) (rowAt p e S η k) (olderAt (g-at η k) k)) (case-added e (u-at η k) (L-at (g-at η k) k) l z)
+        ∙ ap (λ (c : Case). change p e c k (d-at p e S η k) (rowAt p e S η k) (olderAt p e S (g-at η k) k)) (case-added e (u-at p e S η k) (L-at p e S (g-at η k) k) l z)
 
-    pub next-cancelled : u-at η k < e → zero < L-at (g-at η k) k
-        → let o = olderAt (g-at η k) k in
-        let f = multiplier p e (d-at η k) o in
+    pub next-cancelled : u-at p e S η k < e → zero < L-at p e S (g-at η k) k
+        → let o = olderAt p e S (g-at η k) k in
+        let f = multiplier p e (d-at p e S η k) o in
         rowAt p e S η (suc k) ≡ record {
           a = plus (p ^ e) (rowAt p e S η k .a) (times (p ^ e) f (up (k - o .r) (o .pair .a)));
           b = plus (p ^ e) (rowAt p e S η k .b) (times (p ^ e) f (up (k - o .r) (o .pair .b)));
@@ -116,7 +100,7 @@ module _ (p e : ℕ) (S : List ℕ) where
     unfolding change
     next-cancelled l z =
         row-next η k h
-        ∙ ap (λ (c : Case). change p e c k (d-at η k) (rowAt p e S η k) (olderAt (g-at η k) k)) (case-cancelled e (u-at η k) (L-at (g-at η k) k) l z)
+        ∙ ap (λ (c : Case). change p e c k (d-at p e S η k) (rowAt p e S η k) (olderAt p e S (g-at η k) k)) (case-cancelled e (u-at p e S η k) (L-at p e S (g-at η k) k) l z)
 
 -- ---- the first k terms, modulo p^e, are all that k steps read
 

@@ -17,12 +17,12 @@ use Rattle.residue.proofs.Congruence.{rfl, of-eq, sy, tr, add, mul, modulo, sel
 use Rattle.residue.proofs.Valuation.{valuation-le, cofactor-whole, cofactor-invertible, cofactor-inverse}
 use Rattle.recurrence.specs.Polynomial.{conv, Pair, len}
 use Rattle.recurrence.specs.Least.{Least}
-use Rattle.recurrence.specs.Steps.{discrepancy, Older, multiplier, rowAt}
+use Rattle.recurrence.specs.Steps.{discrepancy, Older, multiplier, rowAt, d-at, u-at, θ-at, L-at, olderAt}
 use Rattle.recurrence.proofs.Series.{shift}
 use Rattle.recurrence.proofs.Pairs.{Deg}
 use Rattle.recurrence.proofs.Trace.{Trace, Step, stay, fresh, old, Steps, Best, shortest-rows, grows, flat-law}
 use Rattle.recurrence.proofs.Polynomial.{Reduced, at-combine, at-add, at-single, reduced-plus, reduced-times, reduced-up, reduced-single, len-deg, len-least}
-use Rattle.recurrence.proofs.Steps.{d-at, u-at, θ-at, g-at, L-at, olderAt, row-start, next-stays, next-added, next-cancelled, older-kept, older-grown, entry}
+use Rattle.recurrence.proofs.Steps.{g-at, row-start, next-stays, next-added, next-cancelled, older-kept, older-grown, entry}
 use Rattle.recurrence.proofs.Length.{least-of-pair}
 
 -- the multiplier is minus the multiple that it stands for

@@ -102,3 +102,21 @@ module _ (p e : ℕ) where
     -- row η before step k, that is after k steps
     unfoldable pub rowAt : ℕ → ℕ → Pair
     rowAt η k = row (history k .now) η
+
+    -- d of row η at step k, its u and θ
+    abbrev pub d-at : ℕ → ℕ → ℕ
+    d-at η k = discrepancy (p ^ e) S k (rowAt η k)
+
+    abbrev pub u-at : ℕ → ℕ → ℕ
+    u-at η k = valuation e p (d-at η k)
+
+    abbrev pub θ-at : ℕ → ℕ → ℕ
+    θ-at η k = cofactor e p (d-at η k)
+
+    -- L of row η before step k
+    abbrev pub L-at : ℕ → ℕ → ℕ
+    L-at η k = len (rowAt η k)
+
+    -- what row g remembers before step k
+    unfoldable pub olderAt : ℕ → ℕ → Older
+    olderAt g k = older g (history k .now) (history k .before)

@@ -46,13 +46,13 @@ pub fn remainder(x: u64, q: u32) -> u32
 }
 
 // What Euclid's division finds for a and m: a x + m y = 1 + a m.
-pub struct Combination {
-    pub x: u32,
-    pub y: u32,
+struct Combination {
+    x: u32,
+    y: u32,
 }
 
 // By division, repeated on the smaller pair of the remainder and a. One division a call, and nothing goes below 0.
-pub fn euclid(a: u32, m: u32) -> Combination
+fn euclid(a: u32, m: u32) -> Combination
     requires { ⌜ (0 < a) × (a ≤ m) × (m < 65536) × Coprime a m ⌝ }
     ensures { λ r. ⌜ Bezout a m (r .x) (r .y) ⌝ }
 {
@@ -135,7 +135,7 @@ pub fn reduce(x: u32, q: u32, m: u64) -> u32
 }
 
 // The least prime divisor of n, from the table. The array is made anew at each call: call it once for a modulus, not for each term.
-pub fn least_divisor(n: usize) -> u16
+fn least_divisor(n: usize) -> u16
     requires { ⌜ n < divisorsEnd ⌝ }
     ensures { λ r. ⌜ r ≡ leastDivisor n ⌝ }
 {

@@ -18,10 +18,10 @@ use Rattle.residue.proofs.Congruence.{rfl, of-eq, sy, tr, mul, modulo, same-bel
 use Rattle.residue.proofs.Units.{nonzero, prime-power-coprime}
 use Rattle.residue.proofs.Valuation.{cofactor-le, cofactor-bare}
 use Rattle.recurrence.specs.Polynomial.{conv, up, Pair}
-use Rattle.recurrence.specs.Steps.{Older, multiplier, rowAt}
+use Rattle.recurrence.specs.Steps.{Older, multiplier, rowAt, d-at, u-at, θ-at, L-at, olderAt}
 use Rattle.recurrence.proofs.Pairs.{conv-cong}
 use Rattle.recurrence.proofs.Polynomial.{at-combine, at-up}
-use Rattle.recurrence.proofs.Steps.{d-at, u-at, θ-at, g-at, L-at, olderAt, row-start, older-kept, older-grown, next-stays, next-added, next-cancelled}
+use Rattle.recurrence.proofs.Steps.{g-at, row-start, older-kept, older-grown, next-stays, next-added, next-cancelled}
 use Rattle.recurrence.proofs.Theorem.{qp, d-lt, reduced, start-length, length-le, past-a, d-of-a, length-stays, length-kept, length-grows}
 use Rattle.steps.specs.Sizes.{maxCells, maxTerms, maxRows}
 use Rattle.steps.specs.declared.Ring.{Ring}

@@ -6,8 +6,7 @@ use Prim.Native.Nat.{ℕ, zero, _*_, _-_, _%_, _^_, _≤_, _<_}
 use lib.ListN.{length, getD}
 use Rattle.lists.specs.Table.{at}
 use Rattle.residue.specs.Units.{inverse}
-use Rattle.recurrence.specs.Steps.{Older, rowAt}
-use Rattle.recurrence.proofs.Steps.{u-at, θ-at, L-at, olderAt}
+use Rattle.recurrence.specs.Steps.{Older, rowAt, u-at, θ-at, L-at, olderAt}
 use Rattle.steps.specs.Sizes.{maxCells, maxRows}
 use Rattle.steps.specs.declared.Ring.{Ring}
 use Rattle.steps.specs.Passes.{Shape}

@@ -116,7 +116,7 @@ fn gather(
 
 // b from a: the register generates its terms, so that b_j is coefficient j of terms times a, and it has only l cells. So b is found
 // once, modulo m, and never joined.
-fn start_cells(a: &[u32; CELLS], terms: &[u32; TERMS], l: usize, m: u32) -> [u32; TERMS]
+pub fn start_cells(a: &[u32; CELLS], terms: &[u32; TERMS], l: usize, m: u32) -> [u32; TERMS]
     requires { ⌜ (l ≤ maxTerms) × (0 < m) × Below maxCells 65536 (now a) × Below maxTerms 65536 (now terms) ⌝ }
     ensures { λ r. ⌜ Starts (now (terms .entry)) (now (a .entry)) l m r ⌝ }
 {

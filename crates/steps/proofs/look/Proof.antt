@@ -7,7 +7,7 @@ use lib.ListN.{length, length-set}
 use Rattle.lists.specs.Table.{at}
 use Rattle.lists.proofs.Table.{each-next}
 use Rattle.residue.specs.Valuation.{valuation, cofactor}
-use Rattle.recurrence.proofs.Steps.{u-at, θ-at}
+use Rattle.recurrence.specs.Steps.{u-at, θ-at}
 use Rattle.steps.specs.Sizes.{maxRows}
 use Rattle.steps.proofs.Model.{q-up, p-up, len-low, row-low, row-clear, d-code}
 use Rattle.steps.proofs.look.Statement.{statement}

@@ -7,7 +7,7 @@ use native.Mathlib.Omega.{arith}
 use lib.ListN.{length, length-set, length-replicate, replicate}
 use lib.Seq.{getD-set-other}
 use Rattle.lists.specs.Table.{at}
-use Rattle.recurrence.proofs.Steps.{L-at}
+use Rattle.recurrence.specs.Steps.{L-at}
 use Rattle.steps.specs.Sizes.{maxCells, maxTerms, maxRows}
 use Rattle.steps.specs.State.{State, Spare}
 use Rattle.steps.proofs.Passes.{state-at, zeros-shape, zeros-blank, line-blank, line-long}
