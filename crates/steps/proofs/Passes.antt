@@ -14,7 +14,7 @@ use Rattle.lists.proofs.Table.{each-next, each-skip, rest-next}
 use Rattle.residue.specs.Units.{inverse}
 use Rattle.steps.specs.Sizes.{maxCells, maxRows}
 use Rattle.steps.specs.declared.Ring.{Ring}
-use Rattle.steps.specs.Passes.{Shape, Blank, Starting, nextOf, Memory, Settling}
+use Rattle.steps.specs.Passes.{Shape, Blank, Starting, nextOf, nextAt, Planned, Memory, Settling}
 use Rattle.steps.specs.State.{State}
 
 -- ---- rows of 129 cells
@@ -58,6 +58,37 @@ next-up l u m k e = go (decLt u e) (decLe (l + m) k)
     go (yes a) (yes b) = omega (arith, next-grow l u m k e a b)
     go (yes a) (no b) = omega (arith, next-flat l u m k e a (omega arith))
     go (no a) b = omega (arith, next-stay l u m k e (omega arith))
+
+-- ---- the lengths after a step, row after row
+
+module _ (k e : ℕ) (len us : List ℕ) (cur : List (List ℕ)) (next : List ℕ) (saved : List (List ℕ)) (i : ℕ) (s : Planned k e len us cur next saved i)
+    (small : i < maxRows) (v : ℕ) (value : v ≡ nextAt len us k e i) where
+  long-next : length (set next i v) ≡ maxRows
+  long-next = length-set next i v ∙ s .long
+
+  lens-next : (η : ℕ) → η < i + 1 → at (set next i v) η ≡ nextAt len us k e η
+  lens-next = each-next zero (λ (η : ℕ) (y : ℕ). y ≡ nextAt len us k e η) next i v (s .lens) (omega (arith, s .long)) value
+
+  -- a row that keeps its length has nothing put aside
+  pub plan-skip : v ≤ at len i → Planned k e len us cur (set next i v) saved (i + 1)
+  plan-skip h =
+      record {
+        long = long-next;
+        shape = s .shape;
+        lens = lens-next;
+        rows = each-skip (λ (η : ℕ). at len η < nextAt len us k e η → getD saved η [] ≡ getD cur (e - 1 - at us η) []) i (s .rows) (λ l. absurd (omega arith));
+      }
+
+  -- for a row that grows, row e - 1 - u is
+  pub plan-next : (w : List ℕ) → length w ≡ maxCells → w ≡ getD cur (e - 1 - at us i) [] → Planned k e len us cur (set next i v) (set saved i w) (i + 1)
+  plan-next w wide same =
+      record {
+        long = long-next;
+        shape = shape-set saved i w (s .shape) wide;
+        lens = lens-next;
+        rows = each-next [] (λ (η : ℕ) (y : List ℕ). at len η < nextAt len us k e η → y ≡ getD cur (e - 1 - at us η) []) saved i w (s .rows)
+            (omega (arith, s .shape .many)) (λ l. same);
+      }
 
 -- ---- what the rows remember
 

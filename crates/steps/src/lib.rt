@@ -198,6 +198,34 @@ fn change_all(
     }
 }
 
+// The lengths and the rows after step k. `plan` reads the rows before any of them changes; `change_all` reads nothing of other rows but
+// what they remember.
+fn advance(
+    cur: &mut [[u32; CELLS]; ROWS],
+    old: &[[u32; CELLS]; ROWS],
+    len: &[usize; ROWS],
+    when: &[usize; ROWS],
+    reach: &[usize; ROWS],
+    mult: &[u32; ROWS],
+    next: &mut [usize; ROWS],
+    saved: &mut [[u32; CELLS]; ROWS],
+    us: &[usize; ROWS],
+    ts: &[u32; ROWS],
+    k: usize,
+    ring: Ring,
+)
+    requires { ⌜ (k < maxTerms) × (ring .e ≤ maxRows) × (ring .q < 65536) × (0 < ring .q)
+        × Stocked ring k (now old) (now len) (now when) (now reach) (now mult) × ((j : ℕ) → j < ring .e → at (now ts) j ≤ ring .q)
+        × Shape (now cur) × ((j : ℕ) → j < ring .e → Below maxCells (ring .q) (getD (now cur) j [])) × (ring .scale ≡ scaleOf (ring .q))
+        × ((j : ℕ) → j < ring .e → at (now len) j ≤ k) × (length (now next) ≡ maxRows) × Shape (now saved) ⌝ }
+    ensures { λ _. ⌜ Planned k (ring .e) (now (len .entry)) (now (us .entry)) (now (cur .entry)) (now (next .exit)) (now (saved .exit)) (ring .e)
+        × Changing ring k (now (old .entry)) (now (len .entry)) (now (when .entry)) (now (mult .entry)) (now (us .entry))
+        (now (ts .entry)) (now (cur .entry)) (now (cur .exit)) (ring .e) ⌝ }
+{
+    plan(cur, len, us, k, ring.e, next, saved);
+    change_all(cur, old, len, when, reach, mult, us, ts, k, ring);
+}
+
 // The lengths after step k, and what the rows that grew now remember: the row put aside, its step, its length and its multiplier. One
 // inverse a growth is enough, and theta is a unit.
 fn settle(
@@ -232,17 +260,15 @@ fn settle(
         len[i] = n;
         when[i] = k;
         reach[i] = k + 1 - n;
-        mult[i] = residue::mul(
-            residue::inverse(ts[g], ring.q),
-            residue::power(ring.p, ring.e - 1 - i - us[g]),
-            ring.q,
-        );
+        let v = residue::inverse(ts[g], ring.q);
+        let w = residue::power(ring.p, ring.e - 1 - i - us[g]);
+        mult[i] = residue::mul(v, w, ring.q);
         i += 1;
     }
 }
 
-// Step k. Every row after the step is made from the rows before it: `look` and `plan` only read them, `change_all` reads nothing of
-// other rows but what they remember, and `settle` renews that last.
+// Step k. Every row after the step is made from the rows before it: `look` only reads them, `advance` changes them when all that is read
+// of them is put aside, and `settle` renews what they remember last.
 fn step(
     cur: &mut [[u32; CELLS]; ROWS],
     old: &mut [[u32; CELLS]; ROWS],
@@ -265,8 +291,20 @@ fn step(
         × Spare (now (next .exit)) (now (saved .exit)) (now (us .exit)) (now (ts .exit)) ⌝ }
 {
     look(cur, len, s, k, ring, us, ts);
-    plan(cur, len, us, k, ring.e, next, saved);
-    change_all(cur, old, len, when, reach, mult, us, ts, k, ring);
+    advance(
+        cur,
+        old,
+        len,
+        when,
+        reach,
+        mult,
+        next,
+        saved,
+        us,
+        ts,
+        k,
+        ring,
+    );
     settle(old, len, when, reach, mult, next, saved, us, ts, k, ring);
 }
 
@@ -319,7 +357,8 @@ pub fn run(s: &[u32; TERMS], n: usize, ring: Ring, a: &mut [u32; CELLS], lens: &
             ring,
         );
         k += 1;
-        lens[k] = len[0] as u32;
+        let l = len[0];
+        lens[k] = l as u32;
     }
     *a = cur[0];
 }

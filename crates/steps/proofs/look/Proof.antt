@@ -83,10 +83,10 @@ loop-again c =
     let same = c .before .coefficient .ensures ∙ d-code r (a .s .now) (z .pre .0) (a .k) (a .cur .now) (z .pre .1) (z .pre .2) (l .i) (omega arith) in (
       omega arith,
       length-set (l .us) (l .i) (c .weigh .result .u) ∙ l .inv .1,
-      length-set (l .ts) (l .i) (c .weigh .result .theta) ∙ l .inv .2,
+      length-set (l .ts) (l .i) _ ∙ l .inv .2,
       each-next zero (λ (j : ℕ) (y : ℕ). y ≡ u-at (r .p) (r .e) (a .s .now) j (a .k)) (l .us) (l .i) (c .weigh .result .u) (l .inv .3) (omega (arith, l .inv .1))
           (c .weigh .ensures .0 ∙ ap (valuation (r .e) (r .p)) same),
-      each-next zero (λ (j : ℕ) (y : ℕ). y ≡ θ-at (r .p) (r .e) (a .s .now) j (a .k)) (l .ts) (l .i) (c .weigh .result .theta) (l .inv .4) (omega (arith, l .inv .2))
+      each-next zero (λ (j : ℕ) (y : ℕ). y ≡ θ-at (r .p) (r .e) (a .s .now) j (a .k)) (l .ts) (l .i) _ (l .inv .4) (omega (arith, l .inv .2))
           (c .weigh .ensures .1 ∙ ap (cofactor (r .e) (r .p)) same),
     )
 

@@ -1,14 +1,11 @@
 -- `steps::plan` meets its contract.
 -- Assumes nothing.
-use mathlib.Core.Path.{_≡_, refl, subst, _∙_}
-use mathlib.Core.List.{List, []}
-use Prim.Native.Nat.{ℕ, zero, _≤_, _<_, _-_}
+use mathlib.Core.Path.{_≡_, refl, subst}
+use Prim.Native.Nat.{ℕ, _≤_, _-_}
 use native.Mathlib.Omega.{arith}
-use lib.ListN.{getD, length-set}
 use Rattle.lists.specs.Table.{at}
-use Rattle.lists.proofs.Table.{each-next, each-skip}
-use Rattle.steps.specs.Passes.{Planned, nextAt}
-use Rattle.steps.proofs.Passes.{next-rose, shape-set}
+use Rattle.steps.specs.Passes.{Planned}
+use Rattle.steps.proofs.Passes.{next-rose, plan-skip, plan-next}
 use Rattle.steps.proofs.plan.Statement.{statement}
 use Rattle.steps.proofs.plan.Tie as tie
 
@@ -46,17 +43,8 @@ loop-again : tie.Need-loop-again Inv-loop μ-loop
 loop-again c =
     let a = c .before .before .before .before .before .args in
     let l = c .before .before .before .before .loop in
-    let v = c .before .before .grown .result in
-    let same = c .before .before .grown .ensures in (
-      record {
-        long = length-set (l .next) (l .i) v ∙ l .inv .0 .long;
-        shape = l .inv .0 .shape;
-        lens = each-next zero (λ (j : ℕ) (y : ℕ). y ≡ nextAt (a .len .now) (a .us .now) (a .k) (a .e) j) (l .next) (l .i) v (l .inv .0 .lens) (omega (arith, l .inv .0 .long)) same;
-        rows = each-skip (λ (j : ℕ). at (a .len .now) j < nextAt (a .len .now) (a .us .now) (a .k) (a .e) j → getD (l .saved) j [] ≡ getD (a .cur .now) (a .e - 1 - at (a .us .now) j) []) (l .i) (l .inv .0 .rows)
-            (λ h. absurd (omega (arith, same)));
-      },
-      omega arith,
-    )
+    let v = c .before .before .grown in
+    (plan-skip (a .k) (a .e) (a .len .now) (a .us .now) (a .cur .now) (l .next) (l .saved) (l .i) (l .inv .0) (omega arith) (v .result) (v .ensures) (omega arith), omega arith)
 
 sub-g : tie.Need-sub-g Inv-loop μ-loop
 sub-g c = omega arith
@@ -97,18 +85,8 @@ loop-again-2 c =
     let z = c .before .before .before .before .before .before .before in
     let a = z .args in
     let l = c .before .before .before .before .before .before .loop in
-    let v = c .before .before .before .before .grown .result in
-    let same = c .before .before .before .before .grown .ensures in
-    let w = getD (a .cur .now) (a .e - 1 - at (a .us .now) (l .i)) [] in (
-      record {
-        long = length-set (l .next) (l .i) v ∙ l .inv .0 .long;
-        shape = shape-set (l .saved) (l .i) w (l .inv .0 .shape) (z .pre .3 .wide (a .e - 1 - at (a .us .now) (l .i)) (omega arith));
-        lens = each-next zero (λ (j : ℕ) (y : ℕ). y ≡ nextAt (a .len .now) (a .us .now) (a .k) (a .e) j) (l .next) (l .i) v (l .inv .0 .lens) (omega (arith, l .inv .0 .long)) same;
-        rows = each-next [] (λ (j : ℕ) (y : List ℕ). at (a .len .now) j < nextAt (a .len .now) (a .us .now) (a .k) (a .e) j → y ≡ getD (a .cur .now) (a .e - 1 - at (a .us .now) j) []) (l .saved) (l .i) w (l .inv .0 .rows)
-            (omega (arith, l .inv .0 .shape .many)) (λ h. refl);
-      },
-      omega arith,
-    )
+    let v = c .before .before .before .before .grown in
+    (plan-next (a .k) (a .e) (a .len .now) (a .us .now) (a .cur .now) (l .next) (l .saved) (l .i) (l .inv .0) (omega arith) (v .result) (v .ensures) _ (z .pre .3 .wide _ (omega arith)) refl, omega arith)
 
 returns : tie.Need-returns Inv-loop μ-loop
 returns c =

@@ -55,8 +55,8 @@ step-requires c κs =
 add-k : tie.Need-add-k Inv-loop μ-loop
 add-k c = omega arith
 
-array-read-lens : tie.Need-array-read-lens Inv-loop μ-loop
-array-read-lens c = omega arith
+array-read-l : tie.Need-array-read-l Inv-loop μ-loop
+array-read-l c = omega arith
 
 cast-lens : tie.Need-cast-lens Inv-loop μ-loop
 cast-lens c =
@@ -125,7 +125,7 @@ run-spec =
     loop-holds
     step-requires
     add-k
-    array-read-lens
+    array-read-l
     cast-lens
     mul-lens
     element-write-lens

@@ -86,8 +86,8 @@ mul-old c = omega arith
 element-copy-out-old : tie.Need-element-copy-out-old Inv-loop μ-loop
 element-copy-out-old c = omega arith
 
-mul-t24 : tie.Need-mul-t24 Inv-loop μ-loop
-mul-t24 c = omega arith
+mul-t26 : tie.Need-mul-t26 Inv-loop μ-loop
+mul-t26 c = omega arith
 
 element-set-from-old : tie.Need-element-set-from-old Inv-loop μ-loop
 element-set-from-old c = omega arith
@@ -229,7 +229,7 @@ settle-spec =
     sub-g-2
     mul-old
     element-copy-out-old
-    mul-t24
+    mul-t26
     element-set-from-old
     mul-len
     element-write-len
