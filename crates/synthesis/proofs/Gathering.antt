@@ -40,6 +40,30 @@ is-ring f p e q scale hp he hq hs =
     ap₂ (λ (x y : ℕ). record { p = x; e = y; q = q; scale = scale }) hp he
     ∙ ap₂ (λ (x y : ℕ). record { p = f .prime; e = f .exponent; q = x; scale = y }) hq (hs ∙ ap scaleOf hq)
 
+-- the ring of the least prime power of R is fit for the steps
+module _ {R : ℕ} (big : 1 < R) where
+  few-rows : R < 65536 → leastPower R .exponent ≤ maxRows
+  few-rows small = go (decLe (leastPower R .exponent) maxRows)
+    where
+      go : Dec (leastPower R .exponent ≤ maxRows) → leastPower R .exponent ≤ maxRows
+      go (yes h) = h
+      go (no h) =
+          let up : 2 ^ 16 ≤ leastPower R .prime ^ 16 = pow-le-pow-left (least-prime R big .big) 16 in
+          let on : leastPower R .prime ^ 16 ≤ value (leastPower R) = pow-le-pow-right {n = leastPower R .prime} (omega (arith, least-prime R big .big)) {i = 16} {j = leastPower R .exponent} (omega arith) in
+          absurd (omega (arith, value-most R big))
+
+  pub ring-fits : {S : List ℕ} → R < 65536 → Below maxTerms 65536 S → Setting (ringOf (leastPower R)) S
+  ring-fits small terms =
+      record {
+        prime = least-prime R big;
+        pos = least-exponent R big;
+        few = few-rows small;
+        whole = refl;
+        small = omega (arith, value-most R big);
+        scaled = refl;
+        terms = terms;
+      }
+
 -- f divides Q, and row 0 there is in a and in the lengths
 pub record Covers (S : List ℕ) (n Q : ℕ) (a lengths : List ℕ) (f : PrimePower) : Type 0 where
   pub divides : Q % value f ≡ zero
@@ -111,29 +135,6 @@ module _ {m : ℕ} {S : List ℕ} {n Q R : ℕ} {a lengths : List ℕ} (g : Gath
   v-rest : Coprime v R′
   v-rest d x y =
       prime-power-coprime (f .prime) (f .exponent) R′ (least-prime R big) (least-exponent R big) (least-parts R big .bare) d y x
-
-  -- the ring of that prime power is fit for the steps
-  few-rows : R < 65536 → f .exponent ≤ maxRows
-  few-rows small = go (decLe (f .exponent) maxRows)
-    where
-      go : Dec (f .exponent ≤ maxRows) → f .exponent ≤ maxRows
-      go (yes h) = h
-      go (no h) =
-          let up : 2 ^ 16 ≤ f .prime ^ 16 = pow-le-pow-left (least-prime R big .big) 16 in
-          let on : f .prime ^ 16 ≤ v = pow-le-pow-right {n = f .prime} (omega (arith, least-prime R big .big)) {i = 16} {j = f .exponent} (omega arith) in
-          absurd (omega (arith, value-most R big))
-
-  pub ring-fits : R < 65536 → Below maxTerms 65536 S → Setting (ringOf f) S
-  ring-fits small terms =
-      record {
-        prime = least-prime R big;
-        pos = least-exponent R big;
-        few = few-rows small;
-        whole = refl;
-        small = omega (arith, value-most R big);
-        scaled = refl;
-        terms = terms;
-      }
 
   module _ {a′ lengths′ : List ℕ} (x : Extended (ringOf f) S n Q a lengths a′ lengths′) (wide : 1 < m) where
     covers-new : Covers S n (Q * v) a′ lengths′ f

@@ -46,7 +46,7 @@ extend-requires c κs =
     let f = c .before .before .before .split .result in
     let s = c .before .before .before .split .ensures in
     let same = is-ring (leastPower (l .rest)) (f .prime) (f .exponent) (f .value) (c .before .before .scale .result) (s .0) (s .1) (s .2) (c .before .before .scale .ensures) in (
-      subst (λ (r : Ring). Setting r (z .args .terms .now)) (sym same) (ring-fits (l .inv) big (omega (arith, rest-most (l .inv) big, z .pre .1)) (z .pre .3)),
+      subst (λ (r : Ring). Setting r (z .args .terms .now)) (sym same) (ring-fits big (omega (arith, rest-most (l .inv) big, z .pre .1)) (z .pre .3)),
       z .pre .2,
       l .inv .some,
       omega (arith, product-most (l .inv) big, z .pre .1, ap (λ (y : ℕ). l .big * y) (s .2)),
