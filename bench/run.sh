@@ -7,7 +7,8 @@ trap 'rm -rf "$work"' EXIT
 [ -e /usr/include/NTL/lzz_pX.h ] && [ -e /usr/include/flint/flint.h ] || { apt-get update -qq && apt-get install -y -qq libntl-dev libflint-dev libgmp-dev; }
 compiler=${CC:-$(command -v clang || command -v gcc)}
 rt staticlib timing
+rt staticlib diverthrone
 "$compiler" -O3 -std=c11 -c bench/baseline.c -o "$work/plain.o"
 "$compiler" -O3 -std=c11 -DTRICKS -c bench/baseline.c -o "$work/tricks.o"
-g++ -O3 -std=c++17 -o "$work/bench" bench/bench.cc "$work/plain.o" "$work/tricks.o" target/staticlib/libtiming.a -lntl -lflint -lgmp -lpthread
+g++ -O3 -std=c++17 -Iinclude -o "$work/bench" bench/bench.cc "$work/plain.o" "$work/tricks.o" target/staticlib/libtiming.a target/staticlib/libdiverthrone.a -lntl -lflint -lgmp -lpthread
 "$work/bench"

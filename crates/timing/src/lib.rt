@@ -1,66 +1,98 @@
 // Entry points for the benchmark in bench/, and for nothing else: parts of the work that the C interface does not show by themselves.
+// Like the public calls they take any input.
+use residue::LIMIT;
+use sequence::Reported;
+use sequence::Sequence;
 use steps::CELLS;
 use steps::Ring;
 use steps::TERMS;
 ghost use mathlib.Core.Path.{_≡_};
-ghost use Prim.Native.Nat.{ℕ, _≤_, _<_};
-ghost use lib.ListN.{length};
-ghost use Rattle.residue.specs.Reduction.{scaleOf};
-ghost use Rattle.residue.specs.Factors.{divisorsEnd};
-ghost use Rattle.steps.specs.Sizes.{maxTerms};
-ghost use Rattle.steps.specs.Run.{Below, Setting};
+ghost use Rattle.lists.specs.Choice.{pick};
+ghost use Rattle.sequence.specs.Report.{reportOf, written, aBuffer, bBuffer};
+ghost use Rattle.timing.specs.Entries.{low, fits, rowCells, rowLengths, given, lengthOf};
 
-// The steps at one prime power: a of row 0 and its lengths.
-#[no_mangle]
-pub extern "C" fn timing_steps(
-    s: &[u32; TERMS],
-    n: usize,
-    p: u32,
-    e: usize,
-    q: u32,
-    a: &mut [u32; CELLS],
-    lens: &mut [u32; CELLS],
-)
-    requires { ⌜ Setting (record { p = p; e = e; q = q; scale = scaleOf q }) (now s) × (n ≤ maxTerms) × (0 < q) ⌝ }
+// Whether every term is small enough for the products of the steps.
+fn are_low(s: &[u32; TERMS]) -> bool
+    ensures { λ r. ⌜ r ≡ low (now (s .entry)) ⌝ }
 {
-    let scale = residue::scale(q);
-    let ring = Ring {
-        p: p,
-        e: e,
-        q: q,
-        scale: scale,
-    };
-    steps::run(s, n, ring, a, lens);
+    let mut i: usize = 0;
+    while i < TERMS {
+        if 65536 <= s[i] {
+            return false;
+        }
+        i += 1;
+    }
+    true
 }
 
-// The register modulo m: the steps at each prime power, the join, b and the lengths.
+// Whether the steps can be run: on any other input nothing is done.
+fn fits(m: u32, n: usize, s: &[u32; TERMS]) -> bool
+    ensures { λ r. ⌜ r ≡ fits m n (now (s .entry)) ⌝ }
+{
+    if m < 2 {
+        return false;
+    }
+    if LIMIT <= m as usize {
+        return false;
+    }
+    if TERMS < n {
+        return false;
+    }
+    are_low(s)
+}
+
+// The steps at the prime power of the least prime of m, on the first n terms: a of row 0 and its lengths, and whether they were written.
 #[no_mangle]
-pub extern "C" fn timing_register(
+pub extern "C" fn timing_steps(
     m: u32,
     s: &[u32; TERMS],
     n: usize,
     a: &mut [u32; CELLS],
-    b: &mut [u32; TERMS],
     lens: &mut [u32; CELLS],
-)
-    requires { ⌜ (2 ≤ m) × (m < divisorsEnd) × (n ≤ maxTerms) × Below maxTerms 65536 (now s) ⌝ }
+) -> bool
+    ensures { λ r. ⌜ r ≡ fits m n (now (s .entry)) ⌝ }
+    ensures { λ r. ⌜ now (a .exit) ≡ pick r (rowCells m (now (s .entry)) n) (now (a .entry)) ⌝ }
+    ensures { λ r. ⌜ now (lens .exit) ≡ pick r (rowLengths m (now (s .entry)) n) (now (lens .entry)) ⌝ }
 {
-    let x = synthesis::synthesize(m, s, n);
-    let xa = x.a;
-    let xb = x.b;
-    let lengths = x.lengths;
-    *a = xa;
-    *b = xb;
-    *lens = lengths;
+    if fits(m, n, s) {
+        let f = residue::split(m);
+        let scale = residue::scale(f.value);
+        let ring = Ring {
+            p: f.prime,
+            e: f.exponent,
+            q: f.value,
+            scale: scale,
+        };
+        steps::run(s, n, ring, a, lens);
+        return true;
+    }
+    false
 }
 
-// A record, and a record looked up.
+// The register of a sequence, by the public call. The reply is its length, or 129 where the call refuses.
 #[no_mangle]
-pub extern "C" fn timing_record(query: &[u8], out: &mut [u8]) {
-    catalogue::synthesize(query, out);
-}
-
-#[no_mangle]
-pub extern "C" fn timing_look_up(query: &[u8], catalogue: &[u8], out: &mut [u8]) {
-    catalogue::look_up(query, catalogue, out);
+pub extern "C" fn timing_register(
+    m: u32,
+    count: u32,
+    terms: &[u32; TERMS],
+    a: &mut [u8],
+    b: &mut [u8],
+) -> u32
+    ensures { λ r. ⌜ r ≡ lengthOf (reportOf (given m count (now (terms .entry))) (now (a .entry)) (now (b .entry))) ⌝ }
+    ensures { λ _. ⌜ now (a .exit) ≡ written (reportOf (given m count (now (terms .entry))) (now (a .entry)) (now (b .entry)))
+        (aBuffer (given m count (now (terms .entry)))) (now (a .entry)) ⌝ }
+    ensures { λ _. ⌜ now (b .exit) ≡ written (reportOf (given m count (now (terms .entry))) (now (a .entry)) (now (b .entry)))
+        (bBuffer (given m count (now (terms .entry)))) (now (b .entry)) ⌝ }
+{
+    let t = *terms;
+    let s = Sequence {
+        modulus: m,
+        count: count,
+        terms: t,
+    };
+    let r = sequence::register(s, a, b);
+    match r {
+        Reported::Length(l) => l,
+        Reported::Refused(_) => CELLS as u32,
+    }
 }

@@ -1,0 +1,53 @@
+-- What fits has a ring for the steps, and what the steps give there is what is written.
+-- Assumes nothing.
+use mathlib.Core.Path.{_≡_}
+use mathlib.Core.Bool.{true}
+use mathlib.Core.List.{List}
+use Prim.Native.Nat.{ℕ, zero, _≤_, _<_}
+use native.Mathlib.Decide.{decLe}
+use native.Mathlib.Omega.{arith}
+use lib.Dec.{ltb, leb}
+use borrow.Author.Tests.{ltb-true, leb-true, le-leb, lt-leb}
+use Rattle.lists.specs.Choice.{pick}
+use Rattle.lists.specs.Table.{at}
+use Rattle.lists.proofs.Search.{both-left, both-right, all-at}
+use Rattle.lists.proofs.Table.{is-tabulate}
+use Rattle.residue.specs.Factors.{divisorsEnd, leastPower}
+use Rattle.recurrence.specs.Polynomial.{len}
+use Rattle.steps.specs.Sizes.{maxTerms, maxCells}
+use Rattle.steps.specs.Run.{Below, Result}
+use Rattle.synthesis.proofs.Gathering.{ringOf}
+use Rattle.timing.specs.Entries.{low, fits, rowOf, rowCells, rowLengths}
+
+-- what the test of the inputs says
+pub record Fit (m n : ℕ) (S : List ℕ) : Type 0 where
+  pub least : 2 ≤ m
+  pub most : m < divisorsEnd
+  pub few : n ≤ maxTerms
+  pub terms : Below maxTerms 65536 S
+
+pub fit : (m n : ℕ) (S : List ℕ) → fits m n S ≡ true → Fit m n S
+unfolding fits low
+fit m n S h =
+    let k = both-right (leb 2 m) _ h in
+    let l = both-right (ltb m divisorsEnd) _ k in
+    record {
+      least = leb-true 2 m (both-left _ _ h);
+      most = ltb-true m divisorsEnd (both-left _ _ k);
+      few = leb-true n maxTerms (both-left _ _ l);
+      terms = λ i b. ltb-true (at S i) 65536 (all-at maxTerms _ (both-right (leb n maxTerms) _ l) i b);
+    }
+
+-- the lists that the steps give
+module _ (m : ℕ) {n : ℕ} {S a lens : List ℕ} (r : Result (ringOf (leastPower m)) S n a lens) where
+  pub cells-are : a ≡ rowCells m S n
+  unfolding rowCells
+  cells-are = is-tabulate maxCells _ zero a (r .long-a) (r .cells-a)
+
+  pub lengths-are : lens ≡ rowLengths m S n
+  unfolding rowLengths
+  lengths-are = is-tabulate maxCells _ zero lens (r .long-lens) (λ k h. go k (decLe k n))
+    where
+      go : (k : ℕ) → Dec (k ≤ n) → at lens k ≡ pick (leb k n) (len (rowOf m S k)) zero
+      go k (yes l) = rw (le-leb k n l) (r .sizes k l)
+      go k (no l) = rw (lt-leb k n (omega arith)) (r .others k (omega arith))
