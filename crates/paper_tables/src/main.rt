@@ -1,17 +1,18 @@
-// Tables 1 and 2 of Reeds and Sloane, section 6: the steps on 6, 3, 1, 5, 6 modulo 9.
+// Tables 1 and 2 of Reeds and Sloane, section 6: the steps on 6, 3, 1, 5, 6 modulo 9. Then case 15 of the scope: 128 terms and no more.
 //
-// The file `stdout` is typed from the paper, not from what is written here: polynomials as lists of coefficients from place 0 on, the
+// The file `stdout` is typed from the papers, not from what is written here: polynomials as lists of coefficients from place 0 on, the
 // quintuples with spaces. One place differs: at k = 0 Table 2 has the f of the longer version of the steps, which is not the one proved,
 // and a star stands for it.
+use catalogue::RECORD_BYTES;
 use libc::STDOUT_FILENO;
+use sequence::Outcome;
+use sequence::QUERY_BYTES;
 use steps::CELLS;
 use steps::ROWS;
 use steps::Ring;
 use steps::TERMS;
-ghost use mathlib.Core.Path.{_≡_};
-ghost use Prim.Native.Nat.{ℕ, _%_, _≤_, _<_};
-ghost use Rattle.lists.specs.Table.{at};
-ghost use Rattle.recurrence.specs.Polynomial.{conv};
+ghost use Prim.Native.Nat.{_≤_, _<_};
+ghost use lib.ListN.{length};
 ghost use Rattle.steps.specs.Sizes.{maxTerms, maxCells, maxRows};
 ghost use Rattle.steps.specs.Run.{Below, Setting};
 
@@ -39,10 +40,10 @@ fn place(k: usize, eta: usize) {
 }
 
 // How many coefficients are printed: all up to the last that is not 0, and at least one.
-fn shown(x: &[u32; CELLS]) -> usize
-    ensures { λ r. ⌜ r ≤ maxCells ⌝ }
+fn shown(x: &[u32]) -> usize
+    ensures { λ r. ⌜ r ≤ length (now (x .entry)) ⌝ }
 {
-    let mut n: usize = CELLS;
+    let mut n = x.len();
     while 1 < n {
         if x[n - 1] != 0 {
             return n;
@@ -53,7 +54,9 @@ fn shown(x: &[u32; CELLS]) -> usize
 }
 
 // Coefficients, with commas between.
-fn polynomial(x: &[u32; CELLS]) {
+fn polynomial(x: &[u32])
+    requires { ⌜ 0 < length (now x) ⌝ }
+{
     let n = shown(x);
     value(x[0]);
     let mut i: usize = 1;
@@ -64,21 +67,6 @@ fn polynomial(x: &[u32; CELLS]) {
     }
 }
 
-// b from a: the first l coefficients of the product of s and a, modulo q.
-fn second(s: &[u32; TERMS], a: &[u32; CELLS], l: usize, q: u32) -> [u32; CELLS]
-    requires { ⌜ (l ≤ maxTerms) × (0 < q) × Below maxCells 65536 (now a) × Below maxTerms 65536 (now s) ⌝ }
-    ensures { λ r. ⌜ ((i : ℕ) → i < l → at r i ≡ conv (at (now (s .entry))) (at (now (a .entry))) i % q)
-        × ((i : ℕ) → l ≤ i → at r i ≡ 0) ⌝ }
-{
-    let mut b = [0u32; CELLS];
-    let mut i: usize = 0;
-    while i < l {
-        b[i] = steps::coefficient(a, s, i, i, q);
-        i += 1;
-    }
-    b
-}
-
 // A line of Table 1: a and b of row eta before step k.
 fn pair(k: usize, eta: usize, s: &[u32; TERMS], a: &[u32; CELLS], l: usize, q: u32)
     requires { ⌜ (l ≤ maxTerms) × (0 < q) × Below maxCells 65536 (now a) × Below maxTerms 65536 (now s) ⌝ }
@@ -86,7 +74,7 @@ fn pair(k: usize, eta: usize, s: &[u32; TERMS], a: &[u32; CELLS], l: usize, q: u
     place(k, eta);
     polynomial(a);
     text(b" ");
-    let b = second(s, a, l, q);
+    let b = synthesis::start_cells(a, s, l, q);
     polynomial(&b);
     text(b"\n");
 }
@@ -192,6 +180,63 @@ fn table_2(s: &[u32; TERMS], ring: Ring)
     }
 }
 
+// What a call answered.
+fn told(o: Outcome) {
+    match o {
+        Outcome::Done => text(b"done"),
+        Outcome::Refused(r) => {
+            text(b"refused ");
+            io::print_decimal(STDOUT_FILENO, sequence::number(r));
+        }
+    }
+}
+
+fn stopped(taken: usize, o: Outcome) {
+    number(taken);
+    text(b" terms taken, then ");
+    told(o);
+}
+
+// Pushes up to 129 terms and stops at the first refusal: how many were taken, and the refusal.
+fn fill() {
+    let o = sequence::open(2);
+    let mut s = o.sequence;
+    let mut taken: usize = 0;
+    while taken <= TERMS {
+        let p = sequence::push(s, 1);
+        let x = p.outcome;
+        match x {
+            Outcome::Done => {
+                s = p.sequence;
+                taken += 1;
+            }
+            Outcome::Refused(_) => {
+                stopped(taken, x);
+                return;
+            }
+        }
+    }
+}
+
+// The record of a query with modulus 2 and count 129.
+fn overfull() {
+    let mut query = [0u8; QUERY_BYTES];
+    query[0] = 2;
+    query[2] = 129;
+    let mut out = [0u8; RECORD_BYTES];
+    let o = catalogue::synthesize(&query, &mut out);
+    told(o);
+}
+
+// Case 15: 128 terms are taken, the 129th gets 22; a query with count 129 gets 2.
+fn case_15() {
+    text(b"case 15: ");
+    fill();
+    text(b"; count 129 ");
+    overfull();
+    text(b"\n");
+}
+
 fn main() {
     let mut s = [0u32; TERMS];
     s[0] = 6;
@@ -207,4 +252,5 @@ fn main() {
     };
     table_1(&s, ring);
     table_2(&s, ring);
+    case_15();
 }

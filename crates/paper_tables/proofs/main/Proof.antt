@@ -29,6 +29,9 @@ table-1-requires c κs = nine _ (c .before .scale .ensures)
 table-2-requires : tie.Need-table-2-requires
 table-2-requires c κs = nine _ (c .before .before .before .scale .ensures)
 
+case-15-requires : tie.Need-case-15-requires
+case-15-requires c κs = search needs
+
 returns : tie.Need-returns
 returns c = search needs
 
@@ -44,4 +47,5 @@ main-spec =
     scale-requires
     table-1-requires
     table-2-requires
+    case-15-requires
     returns)

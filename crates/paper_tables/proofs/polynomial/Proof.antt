@@ -1,4 +1,4 @@
--- `paper_tables::polynomial` meets its contract: each place is below 129, by what `shown` says.
+-- `paper_tables::polynomial` meets its contract: each place is below the length, by what `shown` says.
 -- Assumes nothing.
 use Prim.Native.Nat.{_-_}
 use borrow.Author.Needs.{needs}
@@ -14,8 +14,8 @@ abbrev μ-loop : tie.MeasureT-loop
 shown-requires : tie.Need-shown-requires Inv-loop μ-loop
 shown-requires c κs = search needs
 
-element-copy-out-value : tie.Need-element-copy-out-value Inv-loop μ-loop
-element-copy-out-value c = search needs
+shared-slice-read-value : tie.Need-shared-slice-read-value Inv-loop μ-loop
+shared-slice-read-value c = search needs
 
 value-requires : tie.Need-value-requires Inv-loop μ-loop
 value-requires c κs = search needs
@@ -32,8 +32,8 @@ text-requires c κs = search needs
 mul-value : tie.Need-mul-value Inv-loop μ-loop
 mul-value c = search needs
 
-element-copy-out-value-2 : tie.Need-element-copy-out-value-2 Inv-loop μ-loop
-element-copy-out-value-2 c = search needs
+shared-slice-read-value-2 : tie.Need-shared-slice-read-value-2 Inv-loop μ-loop
+shared-slice-read-value-2 c = search needs
 
 value-requires-2 : tie.Need-value-requires-2 Inv-loop μ-loop
 value-requires-2 c κs = search needs
@@ -57,13 +57,13 @@ polynomial-spec =
     Inv-loop
     μ-loop
     shown-requires
-    element-copy-out-value
+    shared-slice-read-value
     value-requires
     loop-holds
     slice-aggregate-text
     text-requires
     mul-value
-    element-copy-out-value-2
+    shared-slice-read-value-2
     value-requires-2
     add-i
     loop-less

@@ -1,13 +1,13 @@
--- `paper_tables::shown` meets its contract: the count starts at 129 and falls.
+-- `paper_tables::shown` meets its contract: the count starts at the length and falls.
 -- Assumes nothing.
 use Prim.Native.Nat.{_≤_}
+use lib.ListN.{length}
 use borrow.Author.Needs.{needs}
 use Rattle.paper_tables.proofs.shown.Statement.{statement}
 use Rattle.paper_tables.proofs.shown.Tie as tie
-use Rattle.steps.specs.Sizes.{maxCells}
 
 abbrev Inv-loop : tie.InvT-loop
-Inv-loop x n₀ n = n ≤ maxCells
+Inv-loop x n₀ n = n ≤ length x
 
 abbrev μ-loop : tie.MeasureT-loop
 μ-loop x n₀ n = n
@@ -21,8 +21,8 @@ sub-if1 c = search needs
 mul-if1 : tie.Need-mul-if1 Inv-loop μ-loop
 mul-if1 c = search needs
 
-element-copy-out-if1 : tie.Need-element-copy-out-if1 Inv-loop μ-loop
-element-copy-out-if1 c = search needs
+shared-slice-read-if1 : tie.Need-shared-slice-read-if1 Inv-loop μ-loop
+shared-slice-read-if1 c = search needs
 
 returns : tie.Need-returns Inv-loop μ-loop
 returns c = search needs
@@ -48,7 +48,7 @@ shown-spec =
     loop-holds
     sub-if1
     mul-if1
-    element-copy-out-if1
+    shared-slice-read-if1
     returns
     sub-n
     loop-less
