@@ -18,7 +18,7 @@ ghost use Rattle.steps.specs.State.{Rows, Lens, Looks, State, Spare};
 pub const TERMS: usize = 128;
 
 // Places for the cells of a row's a, and for the lengths after 0, 1, .. steps.
-pub const CELLS: usize = 129;
+pub const CELLS: usize = TERMS + 1;
 
 // Places for rows: a power p^e below 65,536 has e at most 15.
 pub const ROWS: usize = 15;
