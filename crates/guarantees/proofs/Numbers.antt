@@ -1,4 +1,4 @@
--- The replies have these numbers, by computation.
+-- The answers have these numbers and this order, by computation.
 -- Assumes nothing.
 use mathlib.Core.Path.{refl}
 use Rattle.lists.specs.Table.{tabulate, largest}
@@ -15,28 +15,69 @@ use Rattle.recurrence.specs.Steps.{discrepancy, caseOf, partner, multiplier, ch
 use Rattle.recurrence.specs.Register.{part, parts, complexity, coefficient, register}
 use Rattle.recurrence.specs.Running.{cell, generated, firstDifference}
 use Rattle.sequence.specs.Answers.{firstOf}
-use Rattle.sequence.specs.Rules.{faultOf, openOf, sequenceOf}
+use Rattle.sequence.specs.Rules.{faultOf, openOf, pushOf, sequenceOf}
 use Rattle.candidate.specs.Rules.{flawOf, judgeOf, verifyAnswer, generateAnswer}
 use Rattle.catalogue.specs.Rules.{layout, recordOf, synthesizeAnswer, firstMatch, passes, lookUpAnswer}
-use Rattle.guarantees.specs.Numbers.{Numbers}
+use Rattle.guarantees.specs.Calls.{afterAll}
+use Rattle.guarantees.specs.Numbers.{Numbers, Orders}
 
 pub numbers : Numbers
-unfolding tabulate largest first all every sumTo bytesOf equal neg inverse valuation cofactor leastDivisor leastPower powersUpTo primePowers joined conv plus times up top degree len discrepancy caseOf partner multiplier change remembered older noOlder next history rowAt part parts complexity coefficient register cell generated firstDifference firstOf faultOf openOf sequenceOf flawOf judgeOf verifyAnswer generateAnswer layout recordOf synthesizeAnswer firstMatch passes lookUpAnswer
+unfolding tabulate largest first all every sumTo bytesOf equal neg inverse valuation cofactor leastDivisor leastPower powersUpTo primePowers joined conv plus times up top degree len discrepancy caseOf partner multiplier change remembered older noOlder next history rowAt part parts complexity coefficient register cell generated firstDifference firstOf faultOf openOf pushOf afterAll sequenceOf flawOf judgeOf verifyAnswer generateAnswer layout recordOf synthesizeAnswer firstMatch passes lookUpAnswer
 numbers =
     record {
-      refused-1 = refl;
+      opened = refl;
+      pushed = refl;
+      reported = refl;
+      profiled = refl;
+      yes = refl;
+      no-at-3 = refl;
+      ran = refl;
+      made = refl;
+      made-none-found = refl;
+      found-at-0 = refl;
+      found-at-1 = refl;
+      refused-1-below = refl;
+      refused-1-above = refl;
       refused-2 = refl;
+      refused-2-cells = refl;
       refused-3 = refl;
       refused-4 = refl;
       refused-5 = refl;
-      refused-6 = refl;
-      refused-21 = refl;
+      refused-5-odd = refl;
+      refused-6-long = refl;
+      refused-6-a = refl;
+      refused-6-b = refl;
+      refused-6-past-a = refl;
+      refused-6-past-b = refl;
+      refused-6-lead = refl;
+      refused-21-modulus = refl;
+      refused-21-count = refl;
+      refused-21-term = refl;
+      refused-21-padding = refl;
       refused-22 = refl;
       refused-23 = refl;
-      refused-24 = refl;
-      yes = refl;
-      no-at-3 = refl;
-      made = refl;
-      found-at-0 = refl;
-      found-at-1 = refl;
+      refused-24-flawed = refl;
+      refused-24-no = refl;
+    }
+
+pub orders : Orders
+unfolding tabulate largest first all every sumTo bytesOf equal neg inverse valuation cofactor leastDivisor leastPower powersUpTo primePowers joined conv plus times up top degree len discrepancy caseOf partner multiplier change remembered older noOlder next history rowAt part parts complexity coefficient register cell generated firstDifference firstOf faultOf openOf pushOf afterAll sequenceOf flawOf judgeOf verifyAnswer generateAnswer layout recordOf synthesizeAnswer firstMatch passes lookUpAnswer
+orders =
+    record {
+      push-21-22 = refl;
+      push-22-3 = refl;
+      report-5-21 = refl;
+      profile-5-21 = refl;
+      query-5-1 = refl;
+      query-1-2 = refl;
+      query-2-3 = refl;
+      query-3-4 = refl;
+      verify-5-1 = refl;
+      verify-4-6 = refl;
+      generate-5-1 = refl;
+      generate-1-2 = refl;
+      generate-2-6 = refl;
+      look-up-5-1 = refl;
+      look-up-4-23 = refl;
+      look-up-23-24 = refl;
     }

@@ -1,17 +1,19 @@
--- The paper's numbers, and those for C: a reply for each refusal, each verdict, and records found and made.
+-- The paper's numbers, and those for C: an answer of each kind, and one for each condition of each refusal; and the order of refusals.
 -- Assumes nothing.
 use mathlib.Core.Path.{_≡_}
 use mathlib.Core.List.{List, [], _∷_, _++_}
-use Prim.Native.Nat.{ℕ, _*_, _-_}
+use Prim.Native.Nat.{ℕ, _+_, _*_, _-_}
 use Rattle.lists.specs.Table.{at, tabulate}
 use Rattle.cells.specs.Cell.{bytesOf}
-use Rattle.sequence.specs.Limits.{maxTerms, queryBytes}
-use Rattle.sequence.specs.Answers.{refused}
-use Rattle.sequence.specs.Rules.{openOf, pushAnswer, queryOf}
+use Rattle.sequence.specs.declared.Sequence.{Sequence}
+use Rattle.sequence.specs.Limits.{maxTerms, queryBytes, aBytes, bBytes, profileBytes}
+use Rattle.sequence.specs.Answers.{Answer, granted, refused}
+use Rattle.sequence.specs.Rules.{openOf, openAnswer, pushAnswer, queryOf}
+use Rattle.sequence.specs.Report.{reportAnswer, profileAnswer}
 use Rattle.candidate.specs.Rules.{verifyAnswer, generateAnswer}
 use Rattle.catalogue.specs.Rules.{recordBytes, recordOf, synthesizeAnswer, lookUpAnswer}
 use Rattle.diverthrone.specs.Codes.{codeOf}
-use Rattle.guarantees.specs.Cases.{zeros, aOf, bOf}
+use Rattle.guarantees.specs.Cases.{after, zeros, aOf, bOf}
 
 -- 6, 3, 1, 5, 6 modulo 9 and 2, 2 modulo 4, with their records
 abbrev pub nine : List ℕ
@@ -26,23 +28,86 @@ two = recordOf nine ++ recordOf four
 abbrev pub out : List ℕ
 out = zeros recordBytes
 
--- what C gets for a candidate held against 6, 3, 1, 5, 6 modulo 9
-abbrev pub tested : List ℕ → ℕ
-tested a = codeOf (verifyAnswer nine (aOf a) (bOf (6 ∷ 0 ∷ 1 ∷ [])) 3)
+-- what C gets for a candidate of length l held against 6, 3, 1, 5, 6 modulo 9; its register has length 3, a = 1,4,7,1 and b = 6,0,1
+abbrev pub tested : List ℕ → List ℕ → ℕ → ℕ
+tested a b l = codeOf (verifyAnswer nine (aOf a) (bOf b) l)
 
+-- for a making, and a run of n bytes
+abbrev pub making : List ℕ → ℕ
+making query = codeOf (synthesizeAnswer query out)
+
+abbrev pub running : ℕ → List ℕ → ℕ → ℕ
+running m a n = codeOf (generateAnswer m (aOf a) (bOf []) 0 (zeros n))
+
+-- for looking up in a catalogue of one record with this register
+abbrev pub looking : List ℕ → List ℕ → ℕ
+looking a b = codeOf (lookUpAnswer nine (nine ++ (bytesOf (3 ∷ []) ++ (aOf a ++ bOf b))) out)
+
+-- a query with a count of its own
+abbrev pub counted : ℕ → ℕ → List ℕ → List ℕ
+counted m n ts = bytesOf (m ∷ n ∷ tabulate maxTerms (at ts))
+
+-- a sequence that no call made, and what a push, a register and a profile answer to it
+abbrev pub forged : ℕ → ℕ → List ℕ → Sequence
+forged m n ts = record { modulus = m; count = n; terms = tabulate maxTerms (at ts) }
+
+abbrev pub reporting : Sequence → Answer
+reporting s = reportAnswer s (zeros aBytes) (zeros bBytes)
+
+abbrev pub profiling : Sequence → Answer
+profiling s = profileAnswer s (zeros profileBytes)
+
+-- each answer, and each condition of each refusal
 pub record Numbers : Type 0 where
-  pub refused-1 : codeOf (synthesizeAnswer (queryOf 1 []) out) ≡ 1
-  pub refused-2 : codeOf (synthesizeAnswer (bytesOf (2 ∷ 129 ∷ zeros maxTerms)) out) ≡ 2
-  pub refused-3 : codeOf (synthesizeAnswer (queryOf 5 (0 ∷ 5 ∷ [])) out) ≡ 3
-  pub refused-4 : codeOf (synthesizeAnswer (bytesOf (5 ∷ 0 ∷ tabulate maxTerms (at (1 ∷ [])))) out) ≡ 4
-  pub refused-5 : codeOf (generateAnswer 9 (aOf (1 ∷ [])) (bOf []) 0 (0 ∷ [])) ≡ 5
-  pub refused-6 : tested (2 ∷ 4 ∷ 7 ∷ 1 ∷ []) ≡ 6
-  pub refused-21 : pushAnswer (openOf 1 .sequence) 0 ≡ refused 21
-  pub refused-22 : pushAnswer (record { modulus = 2; count = maxTerms; terms = zeros maxTerms }) 0 ≡ refused 22
-  pub refused-23 : codeOf (lookUpAnswer nine (0 ∷ []) out) ≡ 23
-  pub refused-24 : codeOf (lookUpAnswer nine (nine ++ zeros (recordBytes - queryBytes)) out) ≡ 24
-  pub yes : tested (1 ∷ 4 ∷ 7 ∷ 1 ∷ []) ≡ 0
-  pub no-at-3 : tested (1 ∷ 4 ∷ 7 ∷ 2 ∷ []) ≡ 256 * 4
-  pub made : codeOf (lookUpAnswer nine [] out) ≡ 0
+  pub opened : openAnswer 4095 ≡ granted []
+  pub pushed : pushAnswer (openOf 9 .sequence) 8 ≡ granted []
+  pub reported : reporting (after 9 (6 ∷ 3 ∷ 1 ∷ 5 ∷ 6 ∷ [])) ≡ granted (3 ∷ [])
+  pub profiled : profiling (after 9 (6 ∷ 3 ∷ 1 ∷ 5 ∷ 6 ∷ [])) ≡ granted []
+  pub yes : tested (1 ∷ 4 ∷ 7 ∷ 1 ∷ []) (6 ∷ 0 ∷ 1 ∷ []) 3 ≡ 0
+  pub no-at-3 : tested (1 ∷ 4 ∷ 7 ∷ 2 ∷ []) (6 ∷ 0 ∷ 1 ∷ []) 3 ≡ 256 * 4
+  pub ran : running 9 (1 ∷ []) 256 ≡ 0
+  pub made : making nine ≡ 0
+  pub made-none-found : codeOf (lookUpAnswer nine [] out) ≡ 0
   pub found-at-0 : codeOf (lookUpAnswer nine two out) ≡ 256 * 1
   pub found-at-1 : codeOf (lookUpAnswer four two out) ≡ 256 * 2
+  pub refused-1-below : making (queryOf 1 []) ≡ 1
+  pub refused-1-above : making (queryOf 4096 []) ≡ 1
+  pub refused-2 : making (counted 2 129 []) ≡ 2
+  pub refused-2-cells : running 9 (1 ∷ []) 258 ≡ 2
+  pub refused-3 : making (queryOf 5 (0 ∷ 5 ∷ [])) ≡ 3
+  pub refused-4 : making (counted 5 0 (1 ∷ [])) ≡ 4
+  pub refused-5 : making [] ≡ 5
+  pub refused-5-odd : running 9 (1 ∷ []) 1 ≡ 5
+  pub refused-6-long : tested (1 ∷ []) [] 129 ≡ 6
+  pub refused-6-a : tested (1 ∷ 4 ∷ 9 ∷ 1 ∷ []) (6 ∷ 0 ∷ 1 ∷ []) 3 ≡ 6
+  pub refused-6-b : tested (1 ∷ 4 ∷ 7 ∷ 1 ∷ []) (6 ∷ 9 ∷ 1 ∷ []) 3 ≡ 6
+  pub refused-6-past-a : tested (1 ∷ 4 ∷ 7 ∷ 1 ∷ 1 ∷ []) (6 ∷ 0 ∷ 1 ∷ []) 3 ≡ 6
+  pub refused-6-past-b : tested (1 ∷ 4 ∷ 7 ∷ 1 ∷ []) (6 ∷ 0 ∷ 1 ∷ 1 ∷ []) 3 ≡ 6
+  pub refused-6-lead : tested (2 ∷ 4 ∷ 7 ∷ 1 ∷ []) (6 ∷ 0 ∷ 1 ∷ []) 3 ≡ 6
+  pub refused-21-modulus : pushAnswer (openOf 1 .sequence) 0 ≡ refused 21
+  pub refused-21-count : pushAnswer (forged 5 129 []) 0 ≡ refused 21
+  pub refused-21-term : reporting (forged 5 1 (5 ∷ [])) ≡ refused 21
+  pub refused-21-padding : profiling (forged 5 0 (1 ∷ [])) ≡ refused 21
+  pub refused-22 : pushAnswer (forged 2 128 []) 0 ≡ refused 22
+  pub refused-23 : codeOf (lookUpAnswer nine (0 ∷ []) out) ≡ 23
+  pub refused-24-flawed : looking (2 ∷ 4 ∷ 7 ∷ 1 ∷ []) (6 ∷ 0 ∷ 1 ∷ []) ≡ 24
+  pub refused-24-no : looking (1 ∷ 4 ∷ 7 ∷ 2 ∷ []) (6 ∷ 0 ∷ 1 ∷ []) ≡ 24
+
+-- where two refusals apply, the first in the paper's order is given: the two in a row's name
+pub record Orders : Type 0 where
+  pub push-21-22 : pushAnswer (forged 1 128 []) 0 ≡ refused 21
+  pub push-22-3 : pushAnswer (forged 2 128 []) 2 ≡ refused 22
+  pub report-5-21 : reportAnswer (openOf 1 .sequence) [] [] ≡ refused 5
+  pub profile-5-21 : profileAnswer (openOf 1 .sequence) [] ≡ refused 5
+  pub query-5-1 : codeOf (synthesizeAnswer (queryOf 1 []) []) ≡ 5
+  pub query-1-2 : making (counted 1 129 []) ≡ 1
+  pub query-2-3 : making (counted 5 129 (5 ∷ [])) ≡ 2
+  pub query-3-4 : making (counted 5 1 (5 ∷ 1 ∷ [])) ≡ 3
+  pub verify-5-1 : codeOf (verifyAnswer (queryOf 1 []) [] [] 0) ≡ 5
+  pub verify-4-6 : codeOf (verifyAnswer (counted 5 0 (1 ∷ [])) (aOf []) (bOf []) 129) ≡ 4
+  pub generate-5-1 : running 1 (1 ∷ []) 1 ≡ 5
+  pub generate-1-2 : running 1 (1 ∷ []) 258 ≡ 1
+  pub generate-2-6 : running 9 (2 ∷ []) 258 ≡ 2
+  pub look-up-5-1 : codeOf (lookUpAnswer (queryOf 1 []) (0 ∷ []) []) ≡ 5
+  pub look-up-4-23 : codeOf (lookUpAnswer (counted 5 0 (1 ∷ [])) (0 ∷ []) out) ≡ 4
+  pub look-up-23-24 : codeOf (lookUpAnswer nine (nine ++ zeros (recordBytes - queryBytes + 1)) out) ≡ 23
