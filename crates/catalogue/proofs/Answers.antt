@@ -1,4 +1,4 @@
--- Laws of answers: the numbers in the order of their tests are those of the replies.
+-- Laws of answers: for `synthesize` and `look_up` the numbers in the order of their tests are those of the replies.
 -- Assumes nothing.
 use mathlib.Core.Path.{_≡_, refl, ap, _∙_}
 use mathlib.Core.Bool.{Bool, true, false, not}
@@ -16,7 +16,7 @@ use Rattle.sequence.proofs.Answers.{orRefused, query-told}
 use Rattle.catalogue.specs.declared.LookedUp.{LookedUp}
 use Rattle.catalogue.specs.declared.LookedUp.the-variants as S
 use Rattle.catalogue.specs.declared.Match.the-variants as M
-use Rattle.catalogue.specs.Rules.{recordBytes, synthesizeOf, synthesizeAnswer, records, recordAt, firstMatch, matchOf, passes, serveOf, answerOf, lookedUpAnswer, orElse, lookUpOf, lookUpAnswer}
+use Rattle.catalogue.specs.Rules.{recordBytes, synthesizeOf, synthesizeAnswer, records, recordAt, firstMatch, matchOf, passes, serveOf, fetchOf, lookedUpAnswer, orElse, lookUpOf, lookUpAnswer}
 
 -- Each law takes the equation of a reply, and what is promised beside it, and adds the answer: the whole promise of the call.
 pub synthesize-told :
@@ -39,7 +39,7 @@ synthesize-told query out e x = (e, (x, ap outcomeAnswer e ∙ go (eqb (length o
 pub look-up-told :
     (query catalogue out : List ℕ) {r : LookedUp} {A : Type 0} → r ≡ lookUpOf query catalogue out → A
     → (r ≡ lookUpOf query catalogue out) × (A × (lookedUpAnswer r ≡ lookUpAnswer query catalogue out))
-unfolding lookUpOf lookUpAnswer answerOf firstOf
+unfolding lookUpOf lookUpAnswer fetchOf firstOf
 look-up-told query catalogue out e x = (e, (x, ap lookedUpAnswer e ∙ go (eqb (length out) recordBytes)))
   where
     i : ℕ
@@ -60,9 +60,9 @@ look-up-told query catalogue out e x = (e, (x, ap lookedUpAnswer e ∙ go (eqb (
     rest : List (Bool × Answer)
     rest = (not whole, refused 23) ∷ (both met (not good), refused 24) ∷ []
 
-    -- the answer behind the query's own checks
-    answer : LookedUp
-    answer = pick whole (serveOf (sequenceOf query) catalogue (matchOf (records catalogue) i)) (S.Refused R.Catalogue)
+    -- the reply behind the query's own checks
+    fetched : LookedUp
+    fetched = pick whole (serveOf (sequenceOf query) catalogue (matchOf (records catalogue) i)) (S.Refused R.Catalogue)
 
     served : (g : Bool) → lookedUpAnswer (pick g (S.Found i) (S.Refused R.Record)) ≡ pick (not g) (refused 24) (granted (i ∷ []))
     served true = refl
@@ -76,12 +76,12 @@ look-up-told query catalogue out e x = (e, (x, ap lookedUpAnswer e ∙ go (eqb (
     looked true false = refl
     looked true true = served good
 
-    after : (o : Outcome) → lookedUpAnswer (orElse o answer) ≡ orRefused o (firstOf rest v)
+    after : (o : Outcome) → lookedUpAnswer (orElse o fetched) ≡ orRefused o (firstOf rest v)
     after O.Done = looked whole met
     after (O.Refused r) = refl
 
     go :
         (t : Bool)
-        → lookedUpAnswer (pick t (orElse (checkOf query) answer) (S.Refused R.Buffer)) ≡ pick (not t) (refused 5) (firstOf (queryRefusals query ++ rest) v)
+        → lookedUpAnswer (pick t (orElse (checkOf query) fetched) (S.Refused R.Buffer)) ≡ pick (not t) (refused 5) (firstOf (queryRefusals query ++ rest) v)
     go false = refl
     go true = after (checkOf query) ∙ query-told query rest v

@@ -30,7 +30,7 @@ use Rattle.catalogue.specs.declared.Match.the-variants as M
 use Rattle.catalogue.specs.declared.LookedUp.{LookedUp}
 use Rattle.catalogue.specs.declared.LookedUp.the-variants as S
 use Rattle.catalogue.specs.Word.{wordOf}
-use Rattle.catalogue.specs.Rules.{recordBytes, aPlace, layout, recordOf, recordAt, queryAt, records, firstMatch, matchOf, passes, serveOf, answerOf, orElse, lookUpOf, servedIn}
+use Rattle.catalogue.specs.Rules.{recordBytes, aPlace, layout, recordOf, recordAt, queryAt, records, firstMatch, matchOf, passes, serveOf, fetchOf, orElse, lookUpOf, servedIn}
 
 -- ---- filling a record
 
@@ -168,7 +168,7 @@ is-served s query catalogue out i e f = f ∙ go (passes s (recordAt catalogue i
 
 -- a record that is said to be found is in the catalogue
 pub found-below : (query catalogue out : List ℕ) (i : ℕ) → lookUpOf query catalogue out ≡ S.Found i → i < records catalogue
-unfolding lookUpOf answerOf
+unfolding lookUpOf fetchOf
 found-below query catalogue out i h =
     go (eqb (length out) recordBytes) (checkOf query) (eqb (length catalogue % recordBytes) 0) (matchOf (records catalogue) k) refl h
   where

@@ -91,9 +91,9 @@ abbrev pub serveOf : Sequence → List ℕ → Match → LookedUp
 serveOf s catalogue (M.At i) = pick (passes s (recordAt catalogue i)) (S.Found i) (S.Refused R.Record)
 serveOf s catalogue M.Nowhere = S.Made
 
--- the answer to a query that passed its checks: 23, 24, or found, or made
-unfoldable pub answerOf : List ℕ → List ℕ → LookedUp
-answerOf query catalogue =
+-- for a query that passed its checks: 23, 24, or found, or made
+unfoldable pub fetchOf : List ℕ → List ℕ → LookedUp
+fetchOf query catalogue =
     pick (eqb (length catalogue % recordBytes) 0)
     (serveOf (sequenceOf query) catalogue (matchOf (records catalogue) (firstMatch query catalogue (records catalogue))))
     (S.Refused R.Catalogue)
@@ -104,7 +104,7 @@ orElse (O.Refused r) t = S.Refused r
 
 -- 5 (query, record), 1, 2, 3, 4, 23, 24, in this order
 unfoldable pub lookUpOf : List ℕ → List ℕ → List ℕ → LookedUp
-lookUpOf query catalogue out = pick (eqb (length out) recordBytes) (orElse (checkOf query) (answerOf query catalogue)) (S.Refused R.Buffer)
+lookUpOf query catalogue out = pick (eqb (length out) recordBytes) (orElse (checkOf query) (fetchOf query catalogue)) (S.Refused R.Buffer)
 
 unfoldable pub lookUpAnswer : List ℕ → List ℕ → List ℕ → Answer
 lookUpAnswer query catalogue out =

@@ -16,19 +16,17 @@ ghost use Rattle.sequence.specs.Answers.{outcomeAnswer};
 ghost use Rattle.sequence.specs.Rules.{IsSound, sequenceOf};
 ghost use Rattle.sequence.specs.Report.{filled};
 ghost use Rattle.catalogue.specs.Word.{wordOf};
-ghost use Rattle.catalogue.specs.Rules.{recordBytes, layout, recordOf, synthesizeOf, synthesizeAnswer, records, recordAt, firstMatch, matchOf, passes, serveOf, answerOf, lookedUpAnswer, lookUpOf, lookUpAnswer, servedIn};
+ghost use Rattle.catalogue.specs.Rules.{recordBytes, layout, recordOf, synthesizeOf, synthesizeAnswer, records, recordAt, firstMatch, matchOf, passes, serveOf, fetchOf, lookedUpAnswer, lookUpOf, lookUpAnswer, servedIn};
 
 // A record is the query, the length, a and b. a and b begin at these bytes.
-const A_PLACE: usize = QUERY_BYTES + 2;
+pub const A_PLACE: usize = QUERY_BYTES + 2;
 
-const B_PLACE: usize = A_PLACE + A_BYTES;
+pub const B_PLACE: usize = A_PLACE + A_BYTES;
 
 pub const RECORD_BYTES: usize = B_PLACE + B_BYTES;
 
-// The length and a begin at these cells.
+// The length stands in this cell.
 pub const LENGTH_CELL: usize = QUERY_BYTES / 2;
-
-pub const A_CELL: usize = A_PLACE / 2;
 
 pub enum LookedUp {
     Found(usize),
@@ -36,7 +34,7 @@ pub enum LookedUp {
     Refused(Refusal),
 }
 
-pub enum Match {
+enum Match {
     At(usize),
     Nowhere,
 }
@@ -153,10 +151,10 @@ fn serve(s: Sequence, catalogue: &[u8], out: &mut [u8], i: usize) -> LookedUp
     LookedUp::Refused(Refusal::Record)
 }
 
-// Answers a query that passed its checks; s is its sequence.
-fn answer(query: &[u8], s: Sequence, catalogue: &[u8], out: &mut [u8]) -> LookedUp
+// The record of a query that passed its checks, found or made; s is its sequence.
+fn fetch(query: &[u8], s: Sequence, catalogue: &[u8], out: &mut [u8]) -> LookedUp
     requires { ⌜ (length (now query) ≡ queryBytes) × (s ≡ sequenceOf (now query)) × IsSound s × (length (now out) ≡ recordBytes) ⌝ }
-    ensures { λ r. ⌜ r ≡ answerOf (now (query .entry)) (now (catalogue .entry)) ⌝ }
+    ensures { λ r. ⌜ r ≡ fetchOf (now (query .entry)) (now (catalogue .entry)) ⌝ }
     ensures { λ r. ⌜ now (out .exit) ≡ servedIn r (now (query .entry)) (now (catalogue .entry)) (now (out .entry)) ⌝ }
 {
     let odd = catalogue.len() % RECORD_BYTES;
@@ -189,7 +187,7 @@ pub fn look_up(query: &[u8], catalogue: &[u8], out: &mut [u8]) -> LookedUp
         Outcome::Refused(r) => LookedUp::Refused(r),
         Outcome::Done => {
             let s = c.sequence;
-            answer(query, s, catalogue, out)
+            fetch(query, s, catalogue, out)
         }
     }
 }

@@ -36,7 +36,7 @@ use Rattle.candidate.specs.Rules.{aCells, bCells, judgeOf}
 use Rattle.candidate.proofs.Laws.{IsFine, of-fine, no-difference}
 use Rattle.catalogue.specs.declared.LookedUp.{LookedUp}
 use Rattle.catalogue.specs.declared.LookedUp.the-variants.{Found, Made}
-use Rattle.catalogue.specs.Rules.{recordBytes, recordOf, synthesizeOf, recordAt, queryAt, records, firstMatch, matchOf, passes, serveOf, answerOf, lookUpOf, servedIn}
+use Rattle.catalogue.specs.Rules.{recordBytes, recordOf, synthesizeOf, recordAt, queryAt, records, firstMatch, matchOf, passes, serveOf, fetchOf, lookUpOf, servedIn}
 use Rattle.catalogue.proofs.Places.{layout-query, layout-a, layout-b, layout-length-cell}
 use Rattle.guarantees.specs.Calls.{Call, push, afterAll, taken}
 use Rattle.guarantees.specs.Claims.{MadeRecord, MadeCatalogue, termsOf, AgreesWith, MadeServedReported}
@@ -240,7 +240,7 @@ empty-made = record { whole = refl; each = λ i h. absurd (not-suc-le-zero h) }
 
 module _ (query catalogue out : List ℕ) (fine : checkOf query ≡ Done) (made : MadeCatalogue catalogue) (long : length out ≡ recordBytes) where
   looked : lookUpOf query catalogue out ≡ serveOf (sequenceOf query) catalogue (matchOf (records catalogue) (firstMatch query catalogue (records catalogue)))
-  unfolding lookUpOf answerOf
+  unfolding lookUpOf fetchOf
   looked = rw (eq-eqb (length out) recordBytes long, fine, eq-eqb (length catalogue % recordBytes) 0 (made .whole))
 
   found-record : firstMatch query catalogue (records catalogue) < records catalogue → recordAt catalogue (firstMatch query catalogue (records catalogue)) ≡ recordOf query

@@ -34,6 +34,7 @@ fn one(s: Sequence, code: u32, a: &mut [u8], b: &mut [u8], cells: &mut [u8]) -> 
 }
 
 // Opens a sequence, makes the coded calls one after the other, then a register and a profile.
+// Rejected: one that leaves the last coded call out; one that tells another length than the last register's.
 pub fn drive(modulus: u32, codes: &[u32], a: &mut [u8], b: &mut [u8], cells: &mut [u8]) -> Replies
     ensures { λ r. ⌜ r ≡ repliesOf (drivenTo modulus (now (codes .entry)) (now (a .entry)) (now (b .entry)) (now (cells .entry))) ⌝ }
     ensures { λ _. ⌜ now (a .exit) ≡ ended (drivenTo modulus (now (codes .entry)) (now (a .entry)) (now (b .entry)) (now (cells .entry))) .a ⌝ }

@@ -1,5 +1,6 @@
 // The listing: queries on standard input, a header and a line for each on standard output.
-use catalogue::A_CELL;
+use catalogue::A_PLACE;
+use catalogue::B_PLACE;
 use catalogue::LENGTH_CELL;
 use catalogue::RECORD_BYTES;
 use libc::STDIN_FILENO;
@@ -10,7 +11,7 @@ use steps::CELLS;
 ghost use mathlib.Core.Path.{_≡_};
 ghost use Prim.Native.Nat.{_<_};
 ghost use lib.ListN.{length};
-ghost use Rattle.sequence.specs.Limits.{maxCells};
+ghost use Rattle.sequence.specs.Limits.{maxCells, aBytes};
 ghost use Rattle.catalogue.specs.Rules.{recordBytes};
 
 fn number(n: u32) {
@@ -35,24 +36,24 @@ fn order(entry: &[u8]) -> u32
 }
 
 // Coefficient a_i, behind a comma.
-fn another(entry: &[u8], i: usize)
-    requires { ⌜ (length (now entry) ≡ recordBytes) × (i < maxCells) ⌝ }
+fn another(a: &[u8], i: usize)
+    requires { ⌜ (length (now a) ≡ aBytes) × (i < maxCells) ⌝ }
 {
     text(b",");
-    number(cells::cell(entry, A_CELL + i));
+    number(cells::cell(a, i));
 }
 
 // a_0 .. a_l.
-fn coefficients(entry: &[u8], l: u32)
-    requires { ⌜ length (now entry) ≡ recordBytes ⌝ }
+fn coefficients(a: &[u8], l: u32)
+    requires { ⌜ length (now a) ≡ aBytes ⌝ }
 {
-    number(cells::cell(entry, A_CELL));
+    number(cells::cell(a, 0));
     let mut i: usize = 1;
     while i < CELLS {
         if (l as usize) < i {
             return;
         }
-        another(entry, i);
+        another(a, i);
         i += 1;
     }
 }
@@ -67,7 +68,7 @@ fn line(entry: &[u8])
     let l = order(entry);
     number(l);
     text(b" ");
-    coefficients(entry, l);
+    coefficients(&entry[A_PLACE..B_PLACE], l);
     text(b"\n");
 }
 

@@ -13,7 +13,7 @@ mod table;
 use table::LEAST;
 
 // The table of least divisors goes up to this number, and stops before it.
-pub const LIMIT: usize = 4096;
+const LIMIT: usize = 4096;
 
 // 2^48. To divide by it is a shift.
 const TWO_48: u64 = 281474976710656;

@@ -1,4 +1,4 @@
--- Laws of answers: the numbers in the order of their tests are those of the replies.
+-- Laws of answers: for `open`, `push`, `register`, `profile` and the checks of a query the numbers in the order of their tests are those of the replies.
 -- Assumes nothing.
 use mathlib.Core.Path.{_≡_, refl, ap, _∙_}
 use mathlib.Core.Bool.{Bool, true, false, not}

@@ -114,11 +114,12 @@ checkedOf query = record { sequence = pick (eqb (length query) queryBytes) (sequ
 -- the refusals of a query by number, for the calls that are handed one
 abbrev pub queryRefusals : List ℕ → List (Bool × Answer)
 queryRefusals query =
+    let s = sequenceOf query in
     (not (eqb (length query) queryBytes), refused 5)
-    ∷ (outside (sequenceOf query .modulus), refused 1)
-    ∷ (ltb maxTerms (sequenceOf query .count), refused 2)
-    ∷ (ltb (firstLarge (sequenceOf query .modulus) (sequenceOf query .terms) (sequenceOf query .count)) (sequenceOf query .count), refused 3)
-    ∷ (not (zeroFrom (sequenceOf query .count) maxTerms (sequenceOf query .terms)), refused 4)
+    ∷ (outside (s .modulus), refused 1)
+    ∷ (ltb maxTerms (s .count), refused 2)
+    ∷ (ltb (firstLarge (s .modulus) (s .terms) (s .count)) (s .count), refused 3)
+    ∷ (not (zeroFrom (s .count) maxTerms (s .terms)), refused 4)
     ∷ []
 
 -- a sequence within the limits

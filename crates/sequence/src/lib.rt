@@ -81,7 +81,7 @@ pub struct Checked {
 }
 
 // The first thing wrong with a sequence; of a term, its place.
-pub enum Fault {
+enum Fault {
     Sound,
     Modulus,
     Count,

@@ -3,7 +3,7 @@ use steps::CELLS;
 use steps::Ring;
 use steps::TERMS;
 ghost use mathlib.Core.Path.{_≡_};
-ghost use Prim.Native.Nat.{ℕ, _*_, _≤_, _<_, max};
+ghost use Prim.Native.Nat.{_*_, _≤_, _<_};
 ghost use lib.ListN.{length};
 ghost use Rattle.lists.specs.Table.{at, tabulate};
 ghost use Rattle.residue.specs.Units.{Coprime};

@@ -1,7 +1,7 @@
 -- What fits has a ring for the steps, and what the steps give there is what is written.
 -- Assumes nothing.
-use mathlib.Core.Path.{_≡_}
-use mathlib.Core.Bool.{true}
+use mathlib.Core.Path.{_≡_, refl, sym}
+use mathlib.Core.Bool.{Bool, true, false, not}
 use mathlib.Core.List.{List}
 use Prim.Native.Nat.{ℕ, zero, _≤_, _<_}
 use native.Mathlib.Decide.{decLe}
@@ -17,6 +17,8 @@ use Rattle.recurrence.specs.Polynomial.{len}
 use Rattle.steps.specs.Sizes.{maxTerms, maxCells}
 use Rattle.steps.specs.Run.{Below, Result}
 use Rattle.synthesis.proofs.Gathering.{ringOf}
+use Rattle.sequence.specs.Rules.{outside}
+use Rattle.sequence.proofs.Laws.{inside}
 use Rattle.timing.specs.Entries.{low, fits, rowOf, rowCells, rowLengths}
 
 -- what the test of the inputs says
@@ -29,14 +31,18 @@ pub record Fit (m n : ℕ) (S : List ℕ) : Type 0 where
 pub fit : (m n : ℕ) (S : List ℕ) → fits m n S ≡ true → Fit m n S
 unfolding fits low
 fit m n S h =
-    let k = both-right (leb 2 m) _ h in
-    let l = both-right (ltb m divisorsEnd) _ k in
+    let k = both-right (not (outside m)) _ h in
+    let limits = inside m (not-true (outside m) (both-left _ _ h)) in
     record {
-      least = leb-true 2 m (both-left _ _ h);
-      most = ltb-true m divisorsEnd (both-left _ _ k);
-      few = leb-true n maxTerms (both-left _ _ l);
-      terms = λ i b. ltb-true (at S i) 65536 (all-at maxTerms _ (both-right (leb n maxTerms) _ l) i b);
+      least = limits .0;
+      most = omega (arith, limits .1);
+      few = leb-true n maxTerms (both-left _ _ k);
+      terms = λ i b. ltb-true (at S i) 65536 (all-at maxTerms _ (both-right (leb n maxTerms) _ k) i b);
     }
+  where
+    not-true : (t : Bool) → not t ≡ true → t ≡ false
+    not-true true e = sym e
+    not-true false e = refl
 
 -- the lists that the steps give
 module _ (m : ℕ) {n : ℕ} {S a lens : List ℕ} (r : Result (ringOf (leastPower m)) S n a lens) where

@@ -1,19 +1,20 @@
 -- What the entry points for the benchmark reply and write.
 -- Assumes nothing.
-use mathlib.Core.Bool.{Bool}
+use mathlib.Core.Bool.{Bool, not}
 use mathlib.Core.List.{List}
 use Prim.Native.Nat.{ℕ, zero}
 use lib.Dec.{ltb, leb}
 use Rattle.lists.specs.Choice.{pick, both}
 use Rattle.lists.specs.Search.{all}
 use Rattle.lists.specs.Table.{at, tabulate}
-use Rattle.residue.specs.Factors.{divisorsEnd, leastPower}
+use Rattle.residue.specs.Factors.{leastPower}
 use Rattle.recurrence.specs.Polynomial.{Pair, len}
 use Rattle.recurrence.specs.Steps.{rowAt}
 use Rattle.steps.specs.Sizes.{maxTerms, maxCells}
 use Rattle.sequence.specs.declared.Sequence.{Sequence}
 use Rattle.sequence.specs.declared.Reported.{Reported}
 use Rattle.sequence.specs.declared.Reported.the-variants as P
+use Rattle.sequence.specs.Rules.{outside}
 
 -- ---- the steps alone
 
@@ -21,9 +22,9 @@ use Rattle.sequence.specs.declared.Reported.the-variants as P
 unfoldable pub low : List ℕ → Bool
 low S = all maxTerms (λ i. ltb (at S i) 65536)
 
--- the modulus is from 2 to 4,095, there are at most 128 terms, and every term is low
+-- the modulus is within the limits, there are at most 128 terms, and every term is low
 unfoldable pub fits : ℕ → ℕ → List ℕ → Bool
-fits m n S = both (leb 2 m) (both (ltb m divisorsEnd) (both (leb n maxTerms) (low S)))
+fits m n S = both (not (outside m)) (both (leb n maxTerms) (low S))
 
 -- row 0 after k steps at the prime power of the least prime of m
 abbrev pub rowOf : ℕ → List ℕ → ℕ → Pair

@@ -1,6 +1,5 @@
 // Entry points for the benchmark in bench/, and for nothing else: parts of the work that the C interface does not show by themselves.
 // Like the public calls they take any input.
-use residue::LIMIT;
 use sequence::Reported;
 use sequence::Sequence;
 use steps::CELLS;
@@ -29,10 +28,7 @@ fn are_low(s: &[u32; TERMS]) -> bool
 fn fits(m: u32, n: usize, s: &[u32; TERMS]) -> bool
     ensures { λ r. ⌜ r ≡ fits m n (now (s .entry)) ⌝ }
 {
-    if m < 2 {
-        return false;
-    }
-    if LIMIT <= m as usize {
+    if sequence::outside(m) {
         return false;
     }
     if TERMS < n {
@@ -42,6 +38,7 @@ fn fits(m: u32, n: usize, s: &[u32; TERMS]) -> bool
 }
 
 // The steps at the prime power of the least prime of m, on the first n terms: a of row 0 and its lengths, and whether they were written.
+// Rejected: one that takes modulus 4,096; one that writes and says that it did not.
 #[no_mangle]
 pub extern "C" fn timing_steps(
     m: u32,
@@ -70,6 +67,7 @@ pub extern "C" fn timing_steps(
 }
 
 // The register of a sequence, by the public call. The reply is its length, or 129 where the call refuses.
+// Rejected: one that replies the count; one that swaps a and b.
 #[no_mangle]
 pub extern "C" fn timing_register(
     m: u32,

@@ -24,8 +24,8 @@ enum-known-o c = search needs
 enum-told : tie.Need-enum-told
 enum-told c = search needs
 
-answer-requires : tie.Need-answer-requires
-answer-requires c κs =
+fetch-requires : tie.Need-fetch-requires
+fetch-requires c κs =
     let k = c .before .before .before .before in
     let q = accepted _ (k .check .ensures) (c .before .before .enum-told .given .1) in
     (q .long, q .same, q .sound, k .before .if1 .left)
@@ -45,7 +45,7 @@ unfolding lookUpOf
 returns-3 c =
     let k = c .before .before .before .before .before .before .before in
     let v = k .before .before .before .before .before .args in
-    let told = c .before .before .answer .ensures in
+    let told = c .before .before .fetch .ensures in
     look-up-told (v .query .now) (v .catalogue .now) (v .out .now)
     (simp (eq-eqb _ _ (k .before .if1 .left), ← checked _ (k .check .ensures), c .before .before .before .before .before .enum-told .given .1) (told .0))
     (told .1)
@@ -58,7 +58,7 @@ look-up-spec =
     check-requires
     enum-known-o
     enum-told
-    answer-requires
+    fetch-requires
     returns-2
     same-length
     returns-3)

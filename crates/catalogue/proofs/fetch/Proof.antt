@@ -1,15 +1,15 @@
--- `catalogue::answer` meets its contract: each reply is the one that its tests pick; a match is in the catalogue.
+-- `catalogue::fetch` meets its contract: each reply is the one that its tests pick; a match is in the catalogue.
 -- Assumes nothing.
 use mathlib.Core.Path.{refl, sym, _∙_}
 use borrow.Author.Needs.{needs}
 use borrow.Author.Tests.{eq-eqb, ne-eqb}
-use Rattle.catalogue.specs.Rules.{answerOf}
+use Rattle.catalogue.specs.Rules.{fetchOf}
 use Rattle.catalogue.proofs.Laws.{is-made, match-below, is-served}
-use Rattle.catalogue.proofs.answer.Statement.{statement}
-use Rattle.catalogue.proofs.answer.Tie as tie
+use Rattle.catalogue.proofs.fetch.Statement.{statement}
+use Rattle.catalogue.proofs.fetch.Tie as tie
 
 returns : tie.Need-returns
-unfolding answerOf
+unfolding fetchOf
 returns c = (simp (ne-eqb _ _ (c .if1 .taken)), refl)
 
 find-requires : tie.Need-find-requires
@@ -34,7 +34,7 @@ same-length : tie.Need-same-length
 same-length c = search needs
 
 returns-2 : tie.Need-returns-2
-unfolding answerOf
+unfolding fetchOf
 returns-2 c =
     let f = c .before .before .before .before .before .before .before in
     let s = f .before .before .before .before .before in
@@ -48,7 +48,7 @@ same-length-2 : tie.Need-same-length-2
 same-length-2 c = search needs
 
 returns-3 : tie.Need-returns-3
-unfolding answerOf
+unfolding fetchOf
 returns-3 c =
     let f = c .before .before .before .before .before .before in
     let s = f .before .before .before .before .before in (
@@ -56,8 +56,8 @@ returns-3 c =
       c .before .before .write-record .ensures ∙ is-made _ _ (s .pre .1),
     )
 
-pub answer-spec : {M : Type 1} → statement M
-answer-spec =
+pub fetch-spec : {M : Type 1} → statement M
+fetch-spec =
     tie.close
     (tie.spec
     returns
