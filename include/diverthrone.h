@@ -71,7 +71,8 @@ static inline unsigned diverthrone_cell(const uint8_t *bytes, size_t cell) { ret
 
 /* NULL with length 0. The archive's functions want an address for every slice. So each of their names is also a macro for a function below,
  * which puts an address in place of such a NULL and calls the archive's. The macros have no parameters, so that NULL is legal too where a
- * function is called by its address. After #undef a name means the archive's function itself, which takes no NULL. */
+ * function is called by its address. After #undef a name means the archive's function itself, which takes no NULL; so a host's own inline
+ * function with external linkage, which may not call static ones, can use it. */
 
 /* The byte that stands in is neither read nor written. */
 static inline const uint8_t *diverthrone_in(const uint8_t *bytes, size_t len) {

@@ -19,7 +19,8 @@ pub struct Replies {
 // One call, coded as a number: 0 is a register, 1 a profile, n + 2 a push of n.
 // Rejected: a register that is lent b as a and a as b.
 fn one(s: Sequence, code: u32, a: &mut [u8], b: &mut [u8], cells: &mut [u8]) -> Sequence
-    ensures { λ r. ⌜ stateOf r (now (a .exit)) (now (b .exit)) (now (cells .exit)) ≡ afterCode (stateOf s (now (a .entry)) (now (b .entry)) (now (cells .entry))) code ⌝ }
+    ensures { λ r. ⌜ stateOf r (now (a .exit)) (now (b .exit)) (now (cells .exit))
+        ≡ afterCode (stateOf s (now (a .entry)) (now (b .entry)) (now (cells .entry))) code ⌝ }
 {
     if code == 0 {
         sequence::register(s, a, b);
@@ -37,10 +38,15 @@ fn one(s: Sequence, code: u32, a: &mut [u8], b: &mut [u8], cells: &mut [u8]) -> 
 // Rejected: one that leaves the last coded call out; one that tells another length than the last register's.
 pub fn drive(modulus: u32, codes: &[u32], a: &mut [u8], b: &mut [u8], cells: &mut [u8]) -> Replies
     ensures { λ r. ⌜ r ≡ repliesOf (drivenTo modulus (now (codes .entry)) (now (a .entry)) (now (b .entry)) (now (cells .entry))) ⌝ }
-    ensures { λ _. ⌜ now (a .exit) ≡ ended (drivenTo modulus (now (codes .entry)) (now (a .entry)) (now (b .entry)) (now (cells .entry))) .a ⌝ }
-    ensures { λ _. ⌜ now (b .exit) ≡ ended (drivenTo modulus (now (codes .entry)) (now (a .entry)) (now (b .entry)) (now (cells .entry))) .b ⌝ }
-    ensures { λ _. ⌜ now (cells .exit) ≡ ended (drivenTo modulus (now (codes .entry)) (now (a .entry)) (now (b .entry)) (now (cells .entry))) .cells ⌝ }
-    ensures { λ r. ⌜ (2 ≤ modulus → modulus ≤ maxModulus → length (now (a .entry)) ≡ aBytes → length (now (b .entry)) ≡ bBytes → length (now (cells .entry)) ≡ profileBytes → Shows modulus (takenBy modulus (now (codes .entry))) (r .reported) (r .profiled) (now (a .exit)) (now (b .exit)) (now (cells .exit))) ⌝ }
+    ensures { λ _. ⌜ now (a .exit)
+        ≡ ended (drivenTo modulus (now (codes .entry)) (now (a .entry)) (now (b .entry)) (now (cells .entry))) .a ⌝ }
+    ensures { λ _. ⌜ now (b .exit)
+        ≡ ended (drivenTo modulus (now (codes .entry)) (now (a .entry)) (now (b .entry)) (now (cells .entry))) .b ⌝ }
+    ensures { λ _. ⌜ now (cells .exit)
+        ≡ ended (drivenTo modulus (now (codes .entry)) (now (a .entry)) (now (b .entry)) (now (cells .entry))) .cells ⌝ }
+    ensures { λ r. ⌜ (2 ≤ modulus → modulus ≤ maxModulus → length (now (a .entry)) ≡ aBytes → length (now (b .entry)) ≡ bBytes
+        → length (now (cells .entry)) ≡ profileBytes
+        → Shows modulus (takenBy modulus (now (codes .entry))) (r .reported) (r .profiled) (now (a .exit)) (now (b .exit)) (now (cells .exit))) ⌝ }
 {
     let o = sequence::open(modulus);
     let mut s = o.sequence;
