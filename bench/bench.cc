@@ -2,7 +2,7 @@
 // NTL and FLINT find the minimal polynomial of 128 terms modulo a prime; the C versions find the whole register and the lengths.
 // Ours are calls with a full promise on every input, and each makes its checks: the register and the steps alone by crates/timing, records
 // and looking up by the C interface. The register is the public call: unlike the C versions it also checks the sequence and writes a and b
-// as cells. The steps alone start from the modulus: its prime power and the checks are some 0.2 us of them.
+// as cells. The steps alone start from the modulus: they include its prime power and a check of the terms.
 #include <NTL/lzz_pX.h>
 #include <diverthrone.h>
 #include <flint/flint.h>

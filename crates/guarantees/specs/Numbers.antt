@@ -29,19 +29,19 @@ abbrev pub out : List ℕ
 out = zeros recordBytes
 
 -- what C gets for a candidate of length l held against 6, 3, 1, 5, 6 modulo 9; its register has length 3, a = 1,4,7,1 and b = 6,0,1
-abbrev pub tested : List ℕ → List ℕ → ℕ → ℕ
-tested a b l = codeOf (verifyAnswer nine (aOf a) (bOf b) l)
+abbrev pub verifyCode : List ℕ → List ℕ → ℕ → ℕ
+verifyCode a b l = codeOf (verifyAnswer nine (aOf a) (bOf b) l)
 
--- for a making, and a run of n bytes
-abbrev pub making : List ℕ → ℕ
-making query = codeOf (synthesizeAnswer query out)
+-- for a query that is synthesized, and a candidate of length 0 that generates n bytes
+abbrev pub synthesizeCode : List ℕ → ℕ
+synthesizeCode query = codeOf (synthesizeAnswer query out)
 
-abbrev pub running : ℕ → List ℕ → ℕ → ℕ
-running m a n = codeOf (generateAnswer m (aOf a) (bOf []) 0 (zeros n))
+abbrev pub generateCode : ℕ → List ℕ → ℕ → ℕ
+generateCode m a n = codeOf (generateAnswer m (aOf a) (bOf []) 0 (zeros n))
 
--- for looking up in a catalogue of one record with this register
-abbrev pub looking : List ℕ → List ℕ → ℕ
-looking a b = codeOf (lookUpAnswer nine (nine ++ (bytesOf (3 ∷ []) ++ (aOf a ++ bOf b))) out)
+-- for the query looked up in a catalogue of one record with this register
+abbrev pub lookUpCode : List ℕ → List ℕ → ℕ
+lookUpCode a b = codeOf (lookUpAnswer nine (nine ++ (bytesOf (3 ∷ []) ++ (aOf a ++ bOf b))) out)
 
 -- a query with a count of its own
 abbrev pub counted : ℕ → ℕ → List ℕ → List ℕ
@@ -51,47 +51,47 @@ counted m n ts = bytesOf (m ∷ n ∷ tabulate maxTerms (at ts))
 abbrev pub forged : ℕ → ℕ → List ℕ → Sequence
 forged m n ts = record { modulus = m; count = n; terms = tabulate maxTerms (at ts) }
 
-abbrev pub reporting : Sequence → Answer
-reporting s = reportAnswer s (zeros aBytes) (zeros bBytes)
+abbrev pub registerTo : Sequence → Answer
+registerTo s = reportAnswer s (zeros aBytes) (zeros bBytes)
 
-abbrev pub profiling : Sequence → Answer
-profiling s = profileAnswer s (zeros profileBytes)
+abbrev pub profileTo : Sequence → Answer
+profileTo s = profileAnswer s (zeros profileBytes)
 
 -- each answer, and each condition of each refusal
 pub record Numbers : Type 0 where
   pub opened : openAnswer 4095 ≡ granted []
   pub pushed : pushAnswer (openOf 9 .sequence) 8 ≡ granted []
-  pub reported : reporting (after 9 (6 ∷ 3 ∷ 1 ∷ 5 ∷ 6 ∷ [])) ≡ granted (3 ∷ [])
-  pub profiled : profiling (after 9 (6 ∷ 3 ∷ 1 ∷ 5 ∷ 6 ∷ [])) ≡ granted []
-  pub yes : tested (1 ∷ 4 ∷ 7 ∷ 1 ∷ []) (6 ∷ 0 ∷ 1 ∷ []) 3 ≡ 0
-  pub no-at-3 : tested (1 ∷ 4 ∷ 7 ∷ 2 ∷ []) (6 ∷ 0 ∷ 1 ∷ []) 3 ≡ 256 * 4
-  pub ran : running 9 (1 ∷ []) 256 ≡ 0
-  pub made : making nine ≡ 0
+  pub reported : registerTo (after 9 (6 ∷ 3 ∷ 1 ∷ 5 ∷ 6 ∷ [])) ≡ granted (3 ∷ [])
+  pub profiled : profileTo (after 9 (6 ∷ 3 ∷ 1 ∷ 5 ∷ 6 ∷ [])) ≡ granted []
+  pub yes : verifyCode (1 ∷ 4 ∷ 7 ∷ 1 ∷ []) (6 ∷ 0 ∷ 1 ∷ []) 3 ≡ 0
+  pub no-at-3 : verifyCode (1 ∷ 4 ∷ 7 ∷ 2 ∷ []) (6 ∷ 0 ∷ 1 ∷ []) 3 ≡ 256 * 4
+  pub ran : generateCode 9 (1 ∷ []) 256 ≡ 0
+  pub made : synthesizeCode nine ≡ 0
   pub made-none-found : codeOf (lookUpAnswer nine [] out) ≡ 0
   pub found-at-0 : codeOf (lookUpAnswer nine two out) ≡ 256 * 1
   pub found-at-1 : codeOf (lookUpAnswer four two out) ≡ 256 * 2
-  pub refused-1-below : making (queryOf 1 []) ≡ 1
-  pub refused-1-above : making (queryOf 4096 []) ≡ 1
-  pub refused-2 : making (counted 2 129 []) ≡ 2
-  pub refused-2-cells : running 9 (1 ∷ []) 258 ≡ 2
-  pub refused-3 : making (queryOf 5 (0 ∷ 5 ∷ [])) ≡ 3
-  pub refused-4 : making (counted 5 0 (1 ∷ [])) ≡ 4
-  pub refused-5 : making [] ≡ 5
-  pub refused-5-odd : running 9 (1 ∷ []) 1 ≡ 5
-  pub refused-6-long : tested (1 ∷ []) [] 129 ≡ 6
-  pub refused-6-a : tested (1 ∷ 4 ∷ 9 ∷ 1 ∷ []) (6 ∷ 0 ∷ 1 ∷ []) 3 ≡ 6
-  pub refused-6-b : tested (1 ∷ 4 ∷ 7 ∷ 1 ∷ []) (6 ∷ 9 ∷ 1 ∷ []) 3 ≡ 6
-  pub refused-6-past-a : tested (1 ∷ 4 ∷ 7 ∷ 1 ∷ 1 ∷ []) (6 ∷ 0 ∷ 1 ∷ []) 3 ≡ 6
-  pub refused-6-past-b : tested (1 ∷ 4 ∷ 7 ∷ 1 ∷ []) (6 ∷ 0 ∷ 1 ∷ 1 ∷ []) 3 ≡ 6
-  pub refused-6-lead : tested (2 ∷ 4 ∷ 7 ∷ 1 ∷ []) (6 ∷ 0 ∷ 1 ∷ []) 3 ≡ 6
+  pub refused-1-below : synthesizeCode (queryOf 1 []) ≡ 1
+  pub refused-1-above : synthesizeCode (queryOf 4096 []) ≡ 1
+  pub refused-2 : synthesizeCode (counted 2 129 []) ≡ 2
+  pub refused-2-cells : generateCode 9 (1 ∷ []) 258 ≡ 2
+  pub refused-3 : synthesizeCode (queryOf 5 (0 ∷ 5 ∷ [])) ≡ 3
+  pub refused-4 : synthesizeCode (counted 5 0 (1 ∷ [])) ≡ 4
+  pub refused-5 : synthesizeCode [] ≡ 5
+  pub refused-5-odd : generateCode 9 (1 ∷ []) 1 ≡ 5
+  pub refused-6-long : verifyCode (1 ∷ []) [] 129 ≡ 6
+  pub refused-6-a : verifyCode (1 ∷ 4 ∷ 9 ∷ 1 ∷ []) (6 ∷ 0 ∷ 1 ∷ []) 3 ≡ 6
+  pub refused-6-b : verifyCode (1 ∷ 4 ∷ 7 ∷ 1 ∷ []) (6 ∷ 9 ∷ 1 ∷ []) 3 ≡ 6
+  pub refused-6-past-a : verifyCode (1 ∷ 4 ∷ 7 ∷ 1 ∷ 1 ∷ []) (6 ∷ 0 ∷ 1 ∷ []) 3 ≡ 6
+  pub refused-6-past-b : verifyCode (1 ∷ 4 ∷ 7 ∷ 1 ∷ []) (6 ∷ 0 ∷ 1 ∷ 1 ∷ []) 3 ≡ 6
+  pub refused-6-lead : verifyCode (2 ∷ 4 ∷ 7 ∷ 1 ∷ []) (6 ∷ 0 ∷ 1 ∷ []) 3 ≡ 6
   pub refused-21-modulus : pushAnswer (openOf 1 .sequence) 0 ≡ refused 21
   pub refused-21-count : pushAnswer (forged 5 129 []) 0 ≡ refused 21
-  pub refused-21-term : reporting (forged 5 1 (5 ∷ [])) ≡ refused 21
-  pub refused-21-padding : profiling (forged 5 0 (1 ∷ [])) ≡ refused 21
+  pub refused-21-term : registerTo (forged 5 1 (5 ∷ [])) ≡ refused 21
+  pub refused-21-padding : profileTo (forged 5 0 (1 ∷ [])) ≡ refused 21
   pub refused-22 : pushAnswer (forged 2 128 []) 0 ≡ refused 22
   pub refused-23 : codeOf (lookUpAnswer nine (0 ∷ []) out) ≡ 23
-  pub refused-24-flawed : looking (2 ∷ 4 ∷ 7 ∷ 1 ∷ []) (6 ∷ 0 ∷ 1 ∷ []) ≡ 24
-  pub refused-24-no : looking (1 ∷ 4 ∷ 7 ∷ 2 ∷ []) (6 ∷ 0 ∷ 1 ∷ []) ≡ 24
+  pub refused-24-flawed : lookUpCode (2 ∷ 4 ∷ 7 ∷ 1 ∷ []) (6 ∷ 0 ∷ 1 ∷ []) ≡ 24
+  pub refused-24-no : lookUpCode (1 ∷ 4 ∷ 7 ∷ 2 ∷ []) (6 ∷ 0 ∷ 1 ∷ []) ≡ 24
 
 -- where two refusals apply, the first in the paper's order is given: the two in a row's name
 pub record Orders : Type 0 where
@@ -100,14 +100,14 @@ pub record Orders : Type 0 where
   pub report-5-21 : reportAnswer (openOf 1 .sequence) [] [] ≡ refused 5
   pub profile-5-21 : profileAnswer (openOf 1 .sequence) [] ≡ refused 5
   pub query-5-1 : codeOf (synthesizeAnswer (queryOf 1 []) []) ≡ 5
-  pub query-1-2 : making (counted 1 129 []) ≡ 1
-  pub query-2-3 : making (counted 5 129 (5 ∷ [])) ≡ 2
-  pub query-3-4 : making (counted 5 1 (5 ∷ 1 ∷ [])) ≡ 3
+  pub query-1-2 : synthesizeCode (counted 1 129 []) ≡ 1
+  pub query-2-3 : synthesizeCode (counted 5 129 (5 ∷ [])) ≡ 2
+  pub query-3-4 : synthesizeCode (counted 5 1 (5 ∷ 1 ∷ [])) ≡ 3
   pub verify-5-1 : codeOf (verifyAnswer (queryOf 1 []) [] [] 0) ≡ 5
   pub verify-4-6 : codeOf (verifyAnswer (counted 5 0 (1 ∷ [])) (aOf []) (bOf []) 129) ≡ 4
-  pub generate-5-1 : running 1 (1 ∷ []) 1 ≡ 5
-  pub generate-1-2 : running 1 (1 ∷ []) 258 ≡ 1
-  pub generate-2-6 : running 9 (2 ∷ []) 258 ≡ 2
+  pub generate-5-1 : generateCode 1 (1 ∷ []) 1 ≡ 5
+  pub generate-1-2 : generateCode 1 (1 ∷ []) 258 ≡ 1
+  pub generate-2-6 : generateCode 9 (2 ∷ []) 258 ≡ 2
   pub look-up-5-1 : codeOf (lookUpAnswer (queryOf 1 []) (0 ∷ []) []) ≡ 5
   pub look-up-4-23 : codeOf (lookUpAnswer (counted 5 0 (1 ∷ [])) (0 ∷ []) out) ≡ 4
   pub look-up-23-24 : codeOf (lookUpAnswer nine (nine ++ zeros (recordBytes - queryBytes + 1)) out) ≡ 23
