@@ -1,16 +1,21 @@
 -- The definitions held against numbers of the papers, by computation: the worked example of Reeds and Sloane (Tables 1 and 2), and the
--- scope's example of the compact version of the steps.
+-- scope's example of the compact version of the steps; and sheets replayed.
 -- Assumes nothing.
 use mathlib.Core.Path.{_≡_, refl}
 use mathlib.Core.List.{List, [], _∷_, map}
 use Prim.Native.Nat.{ℕ}
-use Rattle.lists.specs.Table.{at, tabulate}
-use Rattle.lists.specs.Search.{first}
+use lib.ListN.{length}
+use Rattle.lists.specs.Table.{at, tabulate, largest}
+use Rattle.lists.specs.Search.{first, every}
 use Rattle.residue.specs.Congruence.{neg}
 use Rattle.residue.specs.Units.{inverse}
+use Rattle.residue.specs.Factors.{leastDivisor, leastPower, powersUpTo, primePowers}
+use Rattle.residue.specs.Remainders.{joined}
 use Rattle.residue.specs.Valuation.{valuation, cofactor}
 use Rattle.recurrence.specs.Polynomial.{conv, plus, times, up, top, degree, Pair, len}
-use Rattle.recurrence.specs.Steps.{discrepancy, Case, stays, added, cancelled, caseOf, partner, multiplier, change, remembered, older, noOlder, next, history, rowAt}
+use Rattle.recurrence.specs.Steps.{discrepancy, caseOf, partner, multiplier, change, remembered, older, noOlder, next, history, rowAt}
+use Rattle.recurrence.specs.Register.{Register}
+use Rattle.recurrence.specs.Working.{Step, caseNumber, partnerTold, stepAt, stepsAt, stepsOver, sheetOf, caseNumbered, recalled, applied, retold, replayed, replay}
 
 -- row η before step k of the steps at p^e, ready to compute
 unfoldable pub pairAt : ℕ → ℕ → List ℕ → ℕ → ℕ → Pair
@@ -55,68 +60,40 @@ pub first-table : Table1
 unfolding table1
 first-table = record { row00 = refl; row01 = refl; row02 = refl; row03 = refl; row04 = refl; row05 = refl; row10 = refl; row11 = refl; row12 = refl; row13 = refl; row14 = refl; row15 = refl }
 
--- l, u and θ of row η at step k; then f, which is the number g here, and the case
-unfoldable pub seen : ℕ → ℕ → List ℕ
-unfolding pairAt
-seen η k = let w = pairAt 3 2 terms η k in let d = discrepancy 9 terms k w in len w ∷ valuation 2 3 d ∷ cofactor 2 3 d ∷ []
+-- the sheet of all of the terms, and what replaying it gives, ready to compute
+unfoldable pub sheet : ℕ → List ℕ → List Step
+unfolding pairAt joined largest leastDivisor leastPower powersUpTo primePowers caseNumber partnerTold stepAt stepsAt stepsOver sheetOf
+sheet m S = sheetOf m S (length S)
 
-pub record Answer : Type 0 where
-  pub g : ℕ
-  pub case : Case
+unfoldable pub again : ℕ → List ℕ → Register
+unfolding sheet every caseNumbered recalled applied retold replayed replay
+again m S = replay m (length S) (sheet m S)
 
-unfoldable pub answered : ℕ → ℕ → Answer
-unfolding pairAt
-answered η k =
-    let d = discrepancy 9 terms k (pairAt 3 2 terms η k) in
-    record { g = partner 3 2 d; case = caseOf 2 (valuation 2 3 d) (len (pairAt 3 2 terms (partner 3 2 d) k)) }
+abbrev step : ℕ → ℕ → ℕ → ℕ → ℕ → ℕ → ℕ → ℕ → Step
+step q k η l u θ g c = record { power = q; k = k; η = η; length = l; u = u; θ = θ; g = g; case = c }
 
 unfoldable pub lengths : ℕ → List ℕ
 unfolding pairAt
 lengths k = map (λ η. len (pairAt 3 2 terms η k)) (0 ∷ 1 ∷ [])
 
--- where the table has a star, nothing is compared; nor is f at k = 0, which is the longer version's
-pub record Table2 : Type 0 where
-  pub seen00 : seen 0 0 ≡ 0 ∷ 1 ∷ 2 ∷ []
-  pub seen10 : seen 1 0 ≡ 0 ∷ 2 ∷ 1 ∷ []
-  pub seen01 : seen 0 1 ≡ 1 ∷ 1 ∷ 1 ∷ []
-  pub seen11 : seen 1 1 ≡ 0 ∷ 2 ∷ 1 ∷ []
-  pub seen02 : seen 0 2 ≡ 1 ∷ 0 ∷ 4 ∷ []
-  pub seen12 : seen 1 2 ≡ 0 ∷ 1 ∷ 1 ∷ []
-  pub seen03 : seen 0 3 ≡ 3 ∷ 2 ∷ 1 ∷ []
-  pub seen13 : seen 1 3 ≡ 2 ∷ 2 ∷ 1 ∷ []
-  pub seen04 : seen 0 4 ≡ 3 ∷ 0 ∷ 8 ∷ []
-  pub seen14 : seen 1 4 ≡ 2 ∷ 0 ∷ 4 ∷ []
+pub record Sheets : Type 0 where
+  -- Table 2: q, k, η, l, u, θ, g, case. The table has a star for the case at k = 0 and for f where the row stays, and there the longer version's f at k = 0.
+  pub table2 :
+      sheet 9 terms
+      ≡ step 9 0 0 0 1 2 0 2 ∷ step 9 0 1 0 2 1 2 1
+      ∷ step 9 1 0 1 1 1 0 3 ∷ step 9 1 1 0 2 1 2 1
+      ∷ step 9 2 0 1 0 4 1 2 ∷ step 9 2 1 0 1 1 0 3
+      ∷ step 9 3 0 3 2 1 2 1 ∷ step 9 3 1 2 2 1 2 1
+      ∷ step 9 4 0 3 0 8 1 3 ∷ step 9 4 1 2 0 4 1 3 ∷ []
+  -- its last column has lengths alone
   pub last : lengths 5 ≡ 3 ∷ 3 ∷ []
-  pub case01 : answered 0 1 ≡ record { g = 0; case = cancelled }
-  pub case11 : answered 1 1 .case ≡ stays
-  pub case02 : answered 0 2 ≡ record { g = 1; case = added }
-  pub case12 : answered 1 2 ≡ record { g = 0; case = cancelled }
-  pub case03 : answered 0 3 .case ≡ stays
-  pub case13 : answered 1 3 .case ≡ stays
-  pub case04 : answered 0 4 ≡ record { g = 1; case = cancelled }
-  pub case14 : answered 1 4 ≡ record { g = 1; case = cancelled }
+  pub replay9 : again 9 terms ≡ record { length = 3; a = 1 ∷ 4 ∷ 7 ∷ 1 ∷ []; b = 6 ∷ 0 ∷ 1 ∷ [] }
+  pub none : sheet 9 [] ≡ []
+  -- several primes: the least one's records first
+  pub sheet6 : sheet 6 (3 ∷ 3 ∷ []) ≡ step 2 0 0 0 0 1 0 2 ∷ step 2 1 0 1 0 1 0 3 ∷ step 3 0 0 0 1 1 1 1 ∷ step 3 1 0 0 1 1 1 1 ∷ []
+  pub replay6 : again 6 (3 ∷ 3 ∷ []) ≡ record { length = 1; a = 1 ∷ 3 ∷ []; b = 3 ∷ [] }
+  pub replay8 : again 8 (6 ∷ 4 ∷ []) ≡ record { length = 1; a = 1 ∷ 6 ∷ []; b = 6 ∷ [] }
 
-pub second-table : Table2
-unfolding seen answered lengths
-second-table =
-    record {
-      seen00 = refl;
-      seen10 = refl;
-      seen01 = refl;
-      seen11 = refl;
-      seen02 = refl;
-      seen12 = refl;
-      seen03 = refl;
-      seen13 = refl;
-      seen04 = refl;
-      seen14 = refl;
-      last = refl;
-      case01 = refl;
-      case11 = refl;
-      case02 = refl;
-      case12 = refl;
-      case03 = refl;
-      case13 = refl;
-      case04 = refl;
-      case14 = refl;
-    }
+pub second-table : Sheets
+unfolding again lengths
+second-table = record { table2 = refl; last = refl; replay9 = refl; none = refl; sheet6 = refl; replay6 = refl; replay8 = refl }

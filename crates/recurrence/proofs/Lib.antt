@@ -8,3 +8,4 @@ pub mod Length
 pub mod Theorem
 pub mod Register
 pub mod Running
+pub mod Working

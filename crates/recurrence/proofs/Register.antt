@@ -124,11 +124,11 @@ module _ (m : ℕ) (big : 1 < m) (S : List ℕ) (n : ℕ) where
 
   -- the register's lists hold these coefficients at every place
   pub register-a : (i : ℕ) → at (register m S n .a) i ≡ a-of i
-  unfolding register
+  unfolding register complexity coefficient
   register-a i = at-tabulate-all (suc (complexity m S n)) a-of a-zero i
 
   pub register-b : (i : ℕ) → at (register m S n .b) i ≡ b-of i
-  unfolding register
+  unfolding register complexity coefficient
   register-b i = at-tabulate-all (complexity m S n) b-of b-zero i
 
   -- the register's a is found cell by cell, from the remainders at the prime powers
@@ -137,7 +137,7 @@ module _ (m : ℕ) (big : 1 < m) (S : List ℕ) (n : ℕ) where
   is-register-a i x h each = is-coefficient (λ w. w .a) small-a i x h each ∙ sym (register-a i)
 
   pub register-length : register m S n .length ≡ complexity m S n
-  unfolding register
+  unfolding register complexity
   register-length = refl
 
   -- ---- the register is right
@@ -198,7 +198,7 @@ module _ (m : ℕ) (big : 1 < m) (S : List ℕ) (n : ℕ) where
       (record { top-a = λ i h. among-cong F k (deg .top-a i h); top-b = λ i h. among-cong F k (deg .top-b i h) })))
 
   pub register-right : Right m S n (register m S n)
-  unfolding register
+  unfolding register complexity
   register-right =
       record {
         one = starts-with-one;

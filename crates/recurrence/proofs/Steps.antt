@@ -42,7 +42,7 @@ module _ (p e : ℕ) (S : List ℕ) where
   abbrev pub g-at : ℕ → ℕ → ℕ
   g-at η k = e - 1 - u-at p e S η k
 
-  steps-before : (k : ℕ) → length (history p e S k .before) ≡ k
+  pub steps-before : (k : ℕ) → length (history p e S k .before) ≡ k
   unfolding history
   steps-before zero = refl
   steps-before (suc k) = ap suc (steps-before k)

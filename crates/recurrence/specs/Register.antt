@@ -22,6 +22,24 @@ pub record Part : Type 0 where
   pub modulus : ℕ
   pub pair : Pair
 
+-- ---- the register modulo m with these parts
+
+-- its length: the largest of theirs
+abbrev pub lengthFrom : List Part → ℕ
+lengthFrom parts = largest (map (λ t. len (t .pair)) parts)
+
+-- the one number modulo m that has the right remainder at each part
+abbrev pub coefficientFrom : ℕ → List Part → (Pair → List ℕ) → ℕ → ℕ
+coefficientFrom m parts side i = joined m (map (λ t. record { modulus = t .modulus; rest = at (side (t .pair)) i }) parts)
+
+abbrev pub registerFrom : ℕ → List Part → Register
+registerFrom m parts =
+    record {
+      length = lengthFrom parts;
+      a = tabulate (suc (lengthFrom parts)) (coefficientFrom m parts (λ w. w .a));
+      b = tabulate (lengthFrom parts) (coefficientFrom m parts (λ w. w .b));
+    }
+
 module _ (m : ℕ) (S : List ℕ) (n : ℕ) where
   -- row 0 after n steps at a prime power
   unfoldable pub part : PrimePower → Part
@@ -30,18 +48,12 @@ module _ (m : ℕ) (S : List ℕ) (n : ℕ) where
   unfoldable pub parts : List Part
   parts = map part (primePowers m)
 
-  -- the linear complexity of the first n terms: the largest of the lengths
+  -- the linear complexity of the first n terms
   unfoldable pub complexity : ℕ
-  complexity = largest (map (λ t. len (t .pair)) parts)
+  complexity = lengthFrom parts
 
-  -- the one number modulo m that has the right remainder at each prime power
   unfoldable pub coefficient : (Pair → List ℕ) → ℕ → ℕ
-  coefficient side i = joined m (map (λ t. record { modulus = t .modulus; rest = at (side (t .pair)) i }) parts)
+  coefficient side i = coefficientFrom m parts side i
 
   unfoldable pub register : Register
-  register =
-      record {
-        length = complexity;
-        a = tabulate (suc complexity) (coefficient (λ w. w .a));
-        b = tabulate complexity (coefficient (λ w. w .b));
-      }
+  register = registerFrom m parts
