@@ -58,12 +58,15 @@ rows-most (more {rest = R} {f = f} {fs = fs} P pos bare some F) =
     let on : 2 ^ rowsOver fs ≤ R = rows-most F in
     omega (arith, two-sum (f .exponent) (rowsOver fs), mul-le-mul-right {m = 2 ^ f .exponent} {n = value f} (2 ^ rowsOver fs) up, mul-le-mul-left (value f) on)
 
-pub rows-few : (m : ℕ) → zero < m → m < 65536 → rowsOver (primePowers m) ≤ 15
-rows-few m pos small = go (decLe (rowsOver (primePowers m)) 15)
+pub rows-low : {m : ℕ} {fs : List PrimePower} → Factored m fs → m < 65536 → rowsOver fs ≤ 15
+rows-low {m} {fs} F small = go (decLe (rowsOver fs) 15)
   where
-    go : Dec (rowsOver (primePowers m) ≤ 15) → rowsOver (primePowers m) ≤ 15
+    go : Dec (rowsOver fs ≤ 15) → rowsOver fs ≤ 15
     go (yes h) = h
-    go (no h) = absurd (omega (arith, rows-most (factored m pos), pow-le-pow-right {n = 2} (omega arith) {i = 16} {j = rowsOver (primePowers m)} (omega arith)))
+    go (no h) = absurd (omega (arith, rows-most F, pow-le-pow-right {n = 2} (omega arith) {i = 16} {j = rowsOver fs} (omega arith)))
+
+pub rows-few : (m : ℕ) → zero < m → m < 65536 → rowsOver (primePowers m) ≤ 15
+rows-few m pos small = rows-low (factored m pos) small
 
 -- the least prime's rows first
 pub rows-more : (m : ℕ) → 1 < m → rowsOver (primePowers m) ≡ leastPower m .exponent + rowsOver (primePowers (m / value (leastPower m)))

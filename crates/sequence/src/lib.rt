@@ -1,6 +1,8 @@
 // A sequence of terms modulo m (the paper's reading): opening one, pushing a term, its register and its profile; what is wrong with one,
 // and the query that writes one down.
 use steps::CELLS;
+use steps::LOG;
+use steps::StepRecord;
 use steps::TERMS;
 use synthesis::Synthesis;
 ghost use mathlib.Core.Path.{_≡_};
@@ -8,10 +10,12 @@ ghost use Prim.Native.Nat.{_≤_, _<_};
 ghost use lib.ListN.{length};
 ghost use mathlib.Core.List.{_++_};
 ghost use Rattle.cells.specs.Cell.{bytesOf};
+ghost use Rattle.steps.specs.Sizes.{logWords};
 ghost use Rattle.synthesis.specs.Synthesis.{synthesisOf};
 ghost use Rattle.sequence.specs.Limits.{maxTerms, maxCells, queryBytes, aBytes, bBytes, registerBytes};
 ghost use Rattle.sequence.specs.Answers.{number, outcomeAnswer, reportedAnswer};
 ghost use Rattle.sequence.specs.Report.{reportOf, reportAnswer, written, aBuffer, bBuffer, profileOf, profileAnswer, filled, profileBuffer};
+ghost use Rattle.sequence.specs.Trace.{recordsOf, traceOf, traceAnswer, sheetFilled, wordsOf, workOf};
 ghost use Rattle.sequence.specs.Rules.{IsSound, outside, firstLarge, zeroFrom, faultOf, refusalOf, isSound, fresh, openOf, openAnswer, pushOf, pushAnswer, sequenceOf, checkedOf};
 
 // The largest modulus.
@@ -62,6 +66,12 @@ pub enum Outcome {
 pub enum Reported {
     Length(u32),
     Refused(Refusal),
+}
+
+// A trace's reply, and how many records it has for the sheet: none where it is refused.
+pub struct Worked {
+    pub reply: Reported,
+    pub count: usize,
 }
 
 pub struct Opened {
@@ -365,6 +375,72 @@ pub fn register(s: Sequence, a: &mut [u8], b: &mut [u8]) -> Reported
         return Reported::Length(x.length);
     }
     Reported::Refused(Refusal::Sequence)
+}
+
+// All that `trace` does but storing the records, for a sheet with room for some: they are words of the log.
+pub fn work(s: Sequence, a: &mut [u8], b: &mut [u8], room: usize, log: &mut [u64; LOG]) -> Worked
+    requires { ⌜ length (now log) ≡ logWords ⌝ }
+    ensures { λ r. ⌜ (r ≡ workOf s (now (a .entry)) (now (b .entry)) room)
+        × (now (a .exit) ≡ written (r .reply) (aBuffer s) (now (a .entry)))
+        × (now (b .exit) ≡ written (r .reply) (bBuffer s) (now (b .entry)))
+        × (now (log .exit) ≡ sheetFilled (r .reply) (wordsOf s) (now (log .entry))) ⌝ }
+{
+    if a.len() != A_BYTES {
+        return Worked {
+            reply: Reported::Refused(Refusal::Buffer),
+            count: 0,
+        };
+    }
+    if b.len() != B_BYTES {
+        return Worked {
+            reply: Reported::Refused(Refusal::Buffer),
+            count: 0,
+        };
+    }
+    if is_sound(s) {
+        let n = s.count as usize;
+        let count = n * synthesis::count_rows(s.modulus);
+        if room < count {
+            return Worked {
+                reply: Reported::Refused(Refusal::Buffer),
+                count: 0,
+            };
+        }
+        let terms = s.terms;
+        let x = synthesis::trace(s.modulus, &terms, n, log);
+        let xa = x.a;
+        let xb = x.b;
+        write_a(&xa, a);
+        write_b(&xb, b);
+        return Worked {
+            reply: Reported::Length(x.length),
+            count: count,
+        };
+    }
+    Worked {
+        reply: Reported::Refused(Refusal::Sequence),
+        count: 0,
+    }
+}
+
+// Does what `register` does, and fills a sheet with the working: one record for each row at each step, primes rising, then k, then the
+// row. Only this function holds the slice of structs.
+// Rejected: one that tells the length after the step; one that takes a sheet with one record too few; one that writes past the last record.
+pub fn trace(s: Sequence, a: &mut [u8], b: &mut [u8], sheet: &mut [StepRecord]) -> Reported
+    ensures { λ r. ⌜ (r ≡ traceOf s (now (a .entry)) (now (b .entry)) (length (now (sheet .entry))))
+        × (now (a .exit) ≡ written r (aBuffer s) (now (a .entry)))
+        × (now (b .exit) ≡ written r (bBuffer s) (now (b .entry)))
+        × (now (sheet .exit) ≡ sheetFilled r (recordsOf s) (now (sheet .entry)))
+        × (reportedAnswer r ≡ traceAnswer s (now (a .entry)) (now (b .entry)) (length (now (sheet .entry)))) ⌝ }
+{
+    let mut log = [0u64; LOG];
+    let w = work(s, a, b, sheet.len(), &mut log);
+    let mut i: usize = 0;
+    while i < w.count {
+        sheet[i] = steps::entry(&log, i);
+        i += 1;
+    }
+    w.reply
 }
 
 // Writes the linear complexity of the first 0, 1, .. terms to 129 cells, zero past the count.

@@ -1,3 +1,4 @@
+pub mod Log
 pub mod Cells
 pub mod Passes
 pub mod Model

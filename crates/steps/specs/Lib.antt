@@ -1,4 +1,5 @@
 pub mod Sizes
 pub mod Run
+pub mod Log
 pub mod Passes
 pub mod State

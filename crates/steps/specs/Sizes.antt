@@ -13,3 +13,7 @@ maxCells = 129
 -- the rows: a power p^e below 65,536 has e at most 15
 abbrev pub maxRows : ℕ
 maxRows = 15
+
+-- the words of a log: 128 for each of at most 15 rows
+abbrev pub logWords : ℕ
+logWords = 1920

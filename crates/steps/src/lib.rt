@@ -9,7 +9,9 @@ ghost use lib.ListN.{length, getD};
 ghost use Rattle.lists.specs.Table.{at};
 ghost use Rattle.residue.specs.Reduction.{scaleOf};
 ghost use Rattle.recurrence.specs.Polynomial.{conv};
-ghost use Rattle.steps.specs.Sizes.{maxTerms, maxCells, maxRows};
+ghost use Rattle.recurrence.specs.Working.{noStep, stepAt, stepsAt};
+ghost use Rattle.steps.specs.Sizes.{maxTerms, maxCells, maxRows, logWords};
+ghost use Rattle.steps.specs.Log.{recordOf, packed, unpacked, Narrow, Noted, powerOf, describedOf};
 ghost use Rattle.steps.specs.Run.{Below, Setting, Result};
 ghost use Rattle.steps.specs.Passes.{Clear, Added, Shape, Blank, Starting, nextAt, Planned, Stocked, Changed, Changing, Grows, Settling};
 ghost use Rattle.steps.specs.State.{Rows, Lens, Looks, State, Spare};
@@ -23,12 +25,28 @@ pub const CELLS: usize = TERMS + 1;
 // Places for rows: a power p^e below 65,536 has e at most 15.
 pub const ROWS: usize = 15;
 
+// Words of a log: one for each row at each step. A modulus below 65,536 has at most 15 rows in all.
+pub const LOG: usize = ROWS * TERMS;
+
 // The ring in which the steps go: p, e, q = p^e, and q's `residue::scale`.
 pub struct Ring {
     pub p: u32,
     pub e: usize,
     pub q: u32,
     pub scale: u64,
+}
+
+// One row at one step, in the manner of Table 2: the prime power, k, the row's number and its length before the step, u, theta, g (e where
+// the row stays), and the case: 1 stays, 2 added to b, 3 cancelled by an older row.
+pub struct StepRecord {
+    pub power: u32,
+    pub k: u32,
+    pub row: u32,
+    pub length: u32,
+    pub u: u32,
+    pub theta: u32,
+    pub g: u32,
+    pub case: u32,
 }
 
 // Coefficient k of the product of a and s, modulo q, where a is zero past place l. The sum fits 64 bits, so that one division does.
@@ -82,6 +100,124 @@ fn look(
         let w = residue::weigh(d, ring.p, ring.e);
         us[i] = w.u;
         ts[i] = w.theta;
+        i += 1;
+    }
+}
+
+// The record of row i at step k, by value, from what the step sees.
+fn describe(
+    len: &[usize; ROWS],
+    us: &[usize; ROWS],
+    ts: &[u32; ROWS],
+    k: usize,
+    i: usize,
+    ring: Ring,
+) -> StepRecord
+    requires { ⌜ (i < ring .e) × (ring .e ≤ maxRows) × (k < maxTerms) × ((j : ℕ) → j < ring .e → at (now len) j ≤ k)
+        × ((j : ℕ) → j < ring .e → at (now us) j ≤ ring .e) ⌝ }
+    ensures { λ r. ⌜ r ≡ describedOf ring (now (len .entry)) (now (us .entry)) (now (ts .entry)) k i ⌝ }
+{
+    let l = len[i] as u32;
+    let u = us[i];
+    let t = ts[i];
+    if u < ring.e {
+        let answer = ring.e - 1 - u;
+        if len[answer] == 0 {
+            return StepRecord {
+                power: ring.q,
+                k: k as u32,
+                row: i as u32,
+                length: l,
+                u: u as u32,
+                theta: t,
+                g: answer as u32,
+                case: 2,
+            };
+        }
+        return StepRecord {
+            power: ring.q,
+            k: k as u32,
+            row: i as u32,
+            length: l,
+            u: u as u32,
+            theta: t,
+            g: answer as u32,
+            case: 3,
+        };
+    }
+    StepRecord {
+        power: ring.q,
+        k: k as u32,
+        row: i as u32,
+        length: l,
+        u: u as u32,
+        theta: t,
+        g: ring.e as u32,
+        case: 1,
+    }
+}
+
+// A record as one number of 61 bits, and back: a log has no slice of structs, so that all but the last step of a trace is in covered code.
+fn pack(x: StepRecord) -> u64
+    requires { ⌜ Narrow x ⌝ }
+    ensures { λ w. ⌜ w ≡ packed x ⌝ }
+{
+    let head = ((x.power as u64) * 128 + (x.k as u64)) * 16 + (x.row as u64);
+    let middle = (head * 256 + (x.length as u64)) * 16 + (x.u as u64);
+    ((middle * 65536 + (x.theta as u64)) * 16 + (x.g as u64)) * 4 + (x.case as u64)
+}
+
+fn unpack(w: u64) -> StepRecord
+    ensures { λ x. ⌜ x ≡ unpacked w ⌝ }
+{
+    let g = w / 4;
+    let t = g / 16;
+    let u = t / 65536;
+    let l = u / 16;
+    let i = l / 256;
+    let k = i / 16;
+    StepRecord {
+        power: (k / 128) as u32,
+        k: (k % 128) as u32,
+        row: (i % 16) as u32,
+        length: (l % 256) as u32,
+        u: (u % 16) as u32,
+        theta: (t % 65536) as u32,
+        g: (g % 16) as u32,
+        case: (w % 4) as u32,
+    }
+}
+
+// The record at place i of a log, by value.
+pub fn entry(log: &[u64; LOG], i: usize) -> StepRecord
+    requires { ⌜ i < logWords ⌝ }
+    ensures { λ r. ⌜ r ≡ unpacked (at (now (log .entry)) i) ⌝ }
+{
+    unpack(log[i])
+}
+
+// The records of all rows at step k, from a place of the log on, as far as it has places: one that has none asks for nothing.
+fn note(
+    len: &[usize; ROWS],
+    us: &[usize; ROWS],
+    ts: &[u32; ROWS],
+    k: usize,
+    ring: Ring,
+    log: &mut [u64],
+    place: usize,
+)
+    requires { ⌜ (place + ring .e ≤ logWords) × (ring .e ≤ maxRows) × (k < maxTerms) × (ring .q < 65536) × ((j : ℕ) → j < ring .e → at (now len) j ≤ k)
+        × ((j : ℕ) → j < ring .e → at (now us) j ≤ ring .e) × ((j : ℕ) → j < ring .e → at (now ts) j ≤ ring .q) ⌝ }
+    ensures { λ _. ⌜ Noted place (ring .e) (λ (i : ℕ). packed (describedOf ring (now (len .entry)) (now (us .entry)) (now (ts .entry)) k i))
+        (now (log .entry)) (now (log .exit)) ⌝ }
+{
+    let mut i: usize = 0;
+    while i < ring.e {
+        if log.len() <= place + i {
+            return;
+        }
+        let x = describe(len, us, ts, k, i, ring);
+        log[place + i] = pack(x);
         i += 1;
     }
 }
@@ -267,8 +403,8 @@ fn settle(
     }
 }
 
-// Step k. Every row after the step is made from the rows before it: `look` only reads them, `advance` changes them when all that is read
-// of them is put aside, and `settle` renews what they remember last.
+// Step k, with its records. Every row after the step is made from the rows before it: `look` and `note` only read them, `advance` changes
+// them when all that is read of them is put aside, and `settle` renews what they remember last.
 fn step(
     cur: &mut [[u32; CELLS]; ROWS],
     old: &mut [[u32; CELLS]; ROWS],
@@ -283,14 +419,18 @@ fn step(
     s: &[u32; TERMS],
     k: usize,
     ring: Ring,
+    log: &mut [u64],
+    place: usize,
 )
     requires { ⌜ Setting ring (now s) × (k < maxTerms) × State ring (now s) k (now cur) (now old) (now len) (now when) (now reach) (now mult)
-        × Spare (now next) (now saved) (now us) (now ts) ⌝ }
+        × Spare (now next) (now saved) (now us) (now ts) × (place + ring .e ≤ logWords) ⌝ }
     ensures { λ _. ⌜ State ring (now (s .entry)) (suc k) (now (cur .exit)) (now (old .exit)) (now (len .exit)) (now (when .exit))
         (now (reach .exit)) (now (mult .exit))
-        × Spare (now (next .exit)) (now (saved .exit)) (now (us .exit)) (now (ts .exit)) ⌝ }
+        × Spare (now (next .exit)) (now (saved .exit)) (now (us .exit)) (now (ts .exit))
+        × Noted place (ring .e) (λ (i : ℕ). packed (recordOf (stepAt (now (s .entry)) (powerOf ring) k i))) (now (log .entry)) (now (log .exit)) ⌝ }
 {
     look(cur, len, s, k, ring, us, ts);
+    note(len, us, ts, k, ring, log, place);
     advance(
         cur,
         old,
@@ -322,10 +462,21 @@ fn start(cur: &mut [[u32; CELLS]; ROWS], p: u32, e: usize)
     }
 }
 
-// The steps on the first n terms of s: a of row 0, and its length for the first 0, 1, .., n terms. The terms need not be below q.
-pub fn run(s: &[u32; TERMS], n: usize, ring: Ring, a: &mut [u32; CELLS], lens: &mut [u32; CELLS])
-    requires { ⌜ Setting ring (now s) × (n ≤ maxTerms) ⌝ }
-    ensures { λ _. ⌜ Result ring (now (s .entry)) n (now (a .exit)) (now (lens .exit)) ⌝ }
+// The steps on the first n terms of s: a of row 0, and its length for the first 0, 1, .., n terms; and the records of the steps, from a
+// place of the log on. The terms need not be below q.
+pub fn run(
+    s: &[u32; TERMS],
+    n: usize,
+    ring: Ring,
+    a: &mut [u32; CELLS],
+    lens: &mut [u32; CELLS],
+    log: &mut [u64],
+    first: usize,
+)
+    requires { ⌜ Setting ring (now s) × (n ≤ maxTerms) × (first + n * ring .e ≤ logWords) ⌝ }
+    ensures { λ _. ⌜ Result ring (now (s .entry)) n (now (a .exit)) (now (lens .exit))
+        × Noted first (n * ring .e) (λ (i : ℕ). packed (recordOf (getD (stepsAt (now (s .entry)) (powerOf ring) n) i noStep)))
+        (now (log .entry)) (now (log .exit)) ⌝ }
 {
     let mut cur = [[0u32; CELLS]; ROWS];
     let mut old = [[0u32; CELLS]; ROWS];
@@ -339,6 +490,7 @@ pub fn run(s: &[u32; TERMS], n: usize, ring: Ring, a: &mut [u32; CELLS], lens: &
     let mut ts = [0u32; ROWS];
     start(&mut cur, ring.p, ring.e);
     *lens = [0u32; CELLS];
+    let mut place = first;
     let mut k: usize = 0;
     while k < n {
         step(
@@ -355,7 +507,10 @@ pub fn run(s: &[u32; TERMS], n: usize, ring: Ring, a: &mut [u32; CELLS], lens: &
             s,
             k,
             ring,
+            log,
+            place,
         );
+        place += ring.e;
         k += 1;
         let l = len[0];
         lens[k] = l as u32;
@@ -363,19 +518,16 @@ pub fn run(s: &[u32; TERMS], n: usize, ring: Ring, a: &mut [u32; CELLS], lens: &
     *a = cur[0];
 }
 
-// The rows before step n, as the step sees them: a of each row, its length, and u and theta of its discrepancy.
+// The rows before step n, as the step sees them: a of each row, and its length.
 pub fn rows(
     s: &[u32; TERMS],
     n: usize,
     ring: Ring,
     cur: &mut [[u32; CELLS]; ROWS],
     len: &mut [usize; ROWS],
-    us: &mut [usize; ROWS],
-    ts: &mut [u32; ROWS],
 )
-    requires { ⌜ Setting ring (now s) × (n < maxTerms) ⌝ }
-    ensures { λ _. ⌜ Rows ring (now (s .entry)) n (now (cur .exit)) × Lens ring (now (s .entry)) n (now (len .exit))
-        × Looks ring (now (s .entry)) n (now (us .exit)) (now (ts .exit)) ⌝ }
+    requires { ⌜ Setting ring (now s) × (n ≤ maxTerms) ⌝ }
+    ensures { λ _. ⌜ Rows ring (now (s .entry)) n (now (cur .exit)) × Lens ring (now (s .entry)) n (now (len .exit)) ⌝ }
 {
     let mut old = [[0u32; CELLS]; ROWS];
     let mut saved = [[0u32; CELLS]; ROWS];
@@ -383,11 +535,13 @@ pub fn rows(
     let mut when = [0usize; ROWS];
     let mut reach = [0usize; ROWS];
     let mut mult = [0u32; ROWS];
+    let mut us = [0usize; ROWS];
+    let mut ts = [0u32; ROWS];
+    let mut words = [0u64; 1];
     *cur = [[0u32; CELLS]; ROWS];
     *len = [0usize; ROWS];
-    *us = [0usize; ROWS];
-    *ts = [0u32; ROWS];
     start(cur, ring.p, ring.e);
+    let none = &mut words[0..0];
     let mut k: usize = 0;
     while k < n {
         step(
@@ -399,13 +553,14 @@ pub fn rows(
             &mut mult,
             &mut next,
             &mut saved,
-            us,
-            ts,
+            &mut us,
+            &mut ts,
             s,
             k,
             ring,
+            none,
+            0,
         );
         k += 1;
     }
-    look(cur, len, s, n, ring, us, ts);
 }

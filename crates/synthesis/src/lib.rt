@@ -3,13 +3,15 @@ use steps::CELLS;
 use steps::Ring;
 use steps::TERMS;
 ghost use mathlib.Core.Path.{_≡_};
-ghost use Prim.Native.Nat.{_*_, _≤_, _<_};
-ghost use lib.ListN.{length};
+ghost use Prim.Native.Nat.{ℕ, _+_, _*_, _≤_, _<_};
+ghost use lib.ListN.{length, getD};
 ghost use Rattle.lists.specs.Table.{at, tabulate};
 ghost use Rattle.residue.specs.Units.{Coprime};
-ghost use Rattle.residue.specs.Factors.{divisorsEnd};
+ghost use Rattle.residue.specs.Factors.{divisorsEnd, primePowers};
 ghost use Rattle.recurrence.specs.Register.{register};
-ghost use Rattle.steps.specs.Sizes.{maxTerms, maxCells};
+ghost use Rattle.recurrence.specs.Working.{noStep, stepsAt, sheetOf, rowsOver};
+ghost use Rattle.steps.specs.Sizes.{maxTerms, maxCells, maxRows, logWords};
+ghost use Rattle.steps.specs.Log.{recordOf, packed, words, overlaid, powerOf, Noted};
 ghost use Rattle.steps.specs.Run.{Below, Setting};
 ghost use Rattle.synthesis.specs.Joining.{Glued, Raised, Extended, Starts};
 ghost use Rattle.synthesis.specs.Synthesis.{lengthAt, synthesisOf};
@@ -59,7 +61,7 @@ fn raise(lengths: &mut [u32; CELLS], lens: &[u32; CELLS])
     }
 }
 
-// The steps at one more prime power, joined with what was found modulo big. Modulo 1 nothing was: the first row is taken as it is.
+// The steps at one more prime power, their records in the log, joined with what was found modulo big. Modulo 1 nothing was: the first row is taken as it is.
 fn extend(
     ring: Ring,
     big: u32,
@@ -67,15 +69,19 @@ fn extend(
     count: usize,
     a: &mut [u32; CELLS],
     lengths: &mut [u32; CELLS],
+    log: &mut [u64],
+    first: usize,
 )
     requires { ⌜ Setting ring (now terms) × (count ≤ maxTerms) × (0 < big) × (big * ring .q < 65536) × Coprime big (ring .q)
-        × (length (now a) ≡ maxCells) × Below maxCells big (now a) × (length (now lengths) ≡ maxCells) ⌝ }
+        × (length (now a) ≡ maxCells) × Below maxCells big (now a) × (length (now lengths) ≡ maxCells) × (first + count * ring .e ≤ logWords) ⌝ }
     ensures { λ _. ⌜ Extended ring (now (terms .entry)) count big (now (a .entry)) (now (lengths .entry)) (now (a .exit))
-        (now (lengths .exit)) ⌝ }
+        (now (lengths .exit))
+        × Noted first (count * ring .e) (λ (i : ℕ). packed (recordOf (getD (stepsAt (now (terms .entry)) (powerOf ring) count) i noStep)))
+        (now (log .entry)) (now (log .exit)) ⌝ }
 {
     let mut row = [0u32; CELLS];
     let mut lens = [0u32; CELLS];
-    steps::run(terms, count, ring, &mut row, &mut lens);
+    steps::run(terms, count, ring, &mut row, &mut lens, log, first);
     raise(lengths, &lens);
     if big == 1 {
         *a = row;
@@ -84,20 +90,23 @@ fn extend(
     join_cells(a, big, &row, ring.q);
 }
 
-// a and the lengths, from the prime powers of the modulus, the least prime first.
+// a and the lengths, and the records of the steps, from the prime powers of the modulus, the least prime first.
 fn gather(
     modulus: u32,
     terms: &[u32; TERMS],
     count: usize,
     a: &mut [u32; CELLS],
     lengths: &mut [u32; CELLS],
+    log: &mut [u64],
 )
     requires { ⌜ (2 ≤ modulus) × (modulus < divisorsEnd) × (count ≤ maxTerms) × Below maxTerms 65536 (now terms) × (length (now a) ≡ maxCells)
         × Below maxCells 1 (now a) × (length (now lengths) ≡ maxCells) × Below maxCells 1 (now lengths) ⌝ }
     ensures { λ _. ⌜ (now (a .exit) ≡ tabulate maxCells (at (register modulus (now (terms .entry)) count .a)))
-        × (now (lengths .exit) ≡ tabulate maxCells (lengthAt modulus (now (terms .entry)) count)) ⌝ }
+        × (now (lengths .exit) ≡ tabulate maxCells (lengthAt modulus (now (terms .entry)) count))
+        × (now (log .exit) ≡ overlaid (words (sheetOf modulus (now (terms .entry)) count)) (now (log .entry))) ⌝ }
 {
     let mut big: u32 = 1;
+    let mut first: usize = 0;
     let mut rest = modulus;
     while 1 < rest {
         let f = residue::split(rest);
@@ -108,8 +117,9 @@ fn gather(
             q: f.value,
             scale: scale,
         };
-        extend(ring, big, terms, count, a, lengths);
+        extend(ring, big, terms, count, a, lengths, log, first);
         big = big * f.value;
+        first += count * f.exponent;
         rest = f.rest;
     }
 }
@@ -129,14 +139,31 @@ pub fn start_cells(a: &[u32; CELLS], terms: &[u32; TERMS], l: usize, m: u32) -> 
     b
 }
 
-// The shortest register of the first `count` terms modulo `modulus`. The terms need not be below the modulus.
-pub fn synthesize(modulus: u32, terms: &[u32; TERMS], count: usize) -> Synthesis
+// The rows of the steps at all prime powers of the modulus: the sum of the exponents.
+pub fn count_rows(modulus: u32) -> usize
+    requires { ⌜ (2 ≤ modulus) × (modulus < divisorsEnd) ⌝ }
+    ensures { λ r. ⌜ (r ≡ rowsOver (primePowers modulus)) × (r ≤ maxRows) ⌝ }
+{
+    let mut sum: usize = 0;
+    let mut rest = modulus;
+    while 1 < rest {
+        let f = residue::split(rest);
+        sum += f.exponent;
+        rest = f.rest;
+    }
+    sum
+}
+
+// The shortest register of the first `count` terms modulo `modulus`, and the words of its sheet in the log, as far as that has places.
+// The terms need not be below the modulus.
+pub fn trace(modulus: u32, terms: &[u32; TERMS], count: usize, log: &mut [u64]) -> Synthesis
     requires { ⌜ (2 ≤ modulus) × (modulus < divisorsEnd) × (count ≤ maxTerms) × Below maxTerms 65536 (now terms) ⌝ }
-    ensures { λ r. ⌜ r ≡ synthesisOf modulus (now (terms .entry)) count ⌝ }
+    ensures { λ r. ⌜ (r ≡ synthesisOf modulus (now (terms .entry)) count)
+        × (now (log .exit) ≡ overlaid (words (sheetOf modulus (now (terms .entry)) count)) (now (log .entry))) ⌝ }
 {
     let mut a = [0u32; CELLS];
     let mut lengths = [0u32; CELLS];
-    gather(modulus, terms, count, &mut a, &mut lengths);
+    gather(modulus, terms, count, &mut a, &mut lengths, log);
     let length = lengths[count];
     let b = start_cells(&a, terms, length as usize, modulus);
     Synthesis {
@@ -145,4 +172,13 @@ pub fn synthesize(modulus: u32, terms: &[u32; TERMS], count: usize) -> Synthesis
         b: b,
         lengths: lengths,
     }
+}
+
+// The same without the working.
+pub fn synthesize(modulus: u32, terms: &[u32; TERMS], count: usize) -> Synthesis
+    requires { ⌜ (2 ≤ modulus) × (modulus < divisorsEnd) × (count ≤ maxTerms) × Below maxTerms 65536 (now terms) ⌝ }
+    ensures { λ r. ⌜ r ≡ synthesisOf modulus (now (terms .entry)) count ⌝ }
+{
+    let mut none = [0u64; 1];
+    trace(modulus, terms, count, &mut none[0..0])
 }

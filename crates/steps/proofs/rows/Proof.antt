@@ -13,66 +13,66 @@ use Rattle.steps.proofs.rows.Statement.{statement}
 use Rattle.steps.proofs.rows.Tie as tie
 
 abbrev Inv-loop : tie.InvT-loop
-Inv-loop s n ring cur₀ len₀ us₀ ts₀ old₀ saved₀ next₀ when₀ reach₀ mult₀ k₀ cur len us ts old saved next when reach mult k =
+Inv-loop s n ring cur₀ len₀ old₀ saved₀ next₀ when₀ reach₀ mult₀ us₀ ts₀ none₀ k₀ cur len old saved next when reach mult us ts none k =
     (k ≤ n) × State ring s k cur old len when reach mult × Spare next saved us ts
 
 abbrev μ-loop : tie.MeasureT-loop
-μ-loop s n ring cur₀ len₀ us₀ ts₀ old₀ saved₀ next₀ when₀ reach₀ mult₀ k₀ cur len us ts old saved next when reach mult k =
+μ-loop s n ring cur₀ len₀ old₀ saved₀ next₀ when₀ reach₀ mult₀ us₀ ts₀ none₀ k₀ cur len old saved next when reach mult us ts none k =
     n - k
 
 start-requires : tie.Need-start-requires Inv-loop μ-loop
 start-requires c κs =
-    let z = c .before .before .before .before .before in
+    let z = c .before .before .before in
     let a = z .args in
     let r = a .ring in
     let st = z .pre .0 in
     (p-up r (a .s .now) st, whole-low r (a .s .now) st, st .few, zeros-shape, zeros-blank)
 
+sub-none : tie.Need-sub-none Inv-loop μ-loop
+sub-none c = omega arith
+
+part-words-start : tie.Need-part-words-start Inv-loop μ-loop
+part-words-start c = omega arith
+
+part-words-end : tie.Need-part-words-end Inv-loop μ-loop
+part-words-end c = omega arith
+
 loop-holds : tie.Need-loop-holds Inv-loop μ-loop
 loop-holds c =
-    let z = c .before .before .before .before .before .before in
+    let z = c .before .before .before .before .before in
     let a = z .args in
     let r = a .ring in
     let st = z .pre .0 in (
       omega arith,
-      start-code r (a .s .now) st _ _ (replicate maxRows (replicate maxCells zero)) (replicate maxRows zero) (replicate maxRows zero) (replicate maxRows zero) (replicate maxRows zero) (c .start .ensures) zeros-shape (line-blank maxRows) line-long line-long line-long line-long,
+      start-code r (a .s .now) st _ _ (replicate maxRows (replicate maxCells zero)) (replicate maxRows zero) (replicate maxRows zero) (replicate maxRows zero) (replicate maxRows zero) (c .before .start .ensures) zeros-shape (line-blank maxRows) line-long line-long line-long line-long,
       record { long-next = line-long; shape-saved = zeros-shape; long-us = line-long; long-ts = line-long },
     )
 
 step-requires : tie.Need-step-requires Inv-loop μ-loop
 step-requires c κs =
     let z = c .before .before .before .before .before .before .before .before .before .before .before .before .before .before .before .before .before .before in
-    let l = c .before .before .before .before .before .before .before .before .before .before .before .loop in
-    (z .pre .0, omega arith, l .inv .1, l .inv .2)
+    let l = c .before .before .before .before .before .before .before .before .before .before .before .before .loop in
+    (z .pre .0, omega (arith, c .before .before .before .before .before .before .before .before .before .before .before .loop-test .taken, z .pre .1), l .inv .1, l .inv .2, omega (arith, z .pre .0 .few))
 
 add-k : tie.Need-add-k Inv-loop μ-loop
-add-k c = omega arith
+add-k c = omega (arith, c .before .before .before .before .before .before .before .before .before .before .before .before .before .before .loop-test .taken, c .before .before .before .before .before .before .before .before .before .before .before .before .before .before .before .before .before .before .before .before .before .pre .1)
 
 loop-less : tie.Need-loop-less Inv-loop μ-loop
 loop-less c = omega arith
 
 loop-again : tie.Need-loop-again Inv-loop μ-loop
 loop-again c =
-    let l = c .before .before .before .before .before .before .before .before .before .before .before .before .loop in
-    let v = c .step .ensures in
+    let l = c .before .before .before .before .before .before .before .before .before .before .before .before .before .before .before .loop in
+    let v = c .before .before .step .ensures in
     (omega arith, state-at (sym (add-one (l .k))) (v .0), v .1)
-
-look-requires : tie.Need-look-requires Inv-loop μ-loop
-look-requires c κs =
-    let z = c .before .before .before .before .before .before .before .before .before .before .before .before in
-    let a = z .args in
-    let l = c .before .before .before .before .before .loop in
-    let same : l .k ≡ a .n = omega arith in
-    let s = state-at same (l .inv .1) in
-    (z .pre .0, z .pre .1, s .rows, s .lens, l .inv .2 .long-us, l .inv .2 .long-ts)
 
 returns : tie.Need-returns Inv-loop μ-loop
 returns c =
-    let a = c .before .before .before .before .before .before .before .before .before .before .before .before .before .args in
-    let l = c .before .before .before .before .before .before .loop in
+    let a = c .before .before .before .before .before .before .before .before .args in
+    let l = c .before .before .loop in
     let same : l .k ≡ a .n = omega arith in
     let s = state-at same (l .inv .1) in
-    (s .rows, s .lens, c .look .ensures .0)
+    (s .rows, s .lens)
 
 pub rows-spec : {M : Type 1} → statement M
 rows-spec =
@@ -81,10 +81,12 @@ rows-spec =
     Inv-loop
     μ-loop
     start-requires
+    sub-none
+    part-words-start
+    part-words-end
     loop-holds
     step-requires
     add-k
     loop-less
     loop-again
-    look-requires
     returns)
