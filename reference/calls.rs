@@ -1,12 +1,16 @@
-//! The calls of document 01 on plain values and byte buffers.
+//! The calls of document 01, and of request A1 in 02, on plain values and byte
+//! buffers.
 //!
 //! "Order where several apply: 5, 21, 1, 2, 22, 3, 4, 6, 23, 24. Each call gives
-//! only those that concern what it is handed." A refused call leaves every lent
-//! byte as it was.
+//! only those that concern what it is handed." Only the 5 of a sheet comes after 21.
+//! A refused call leaves every lent byte as it was.
 
-use crate::join::{profile as profile_of, register as register_of, Register};
+use crate::join::{
+    histories, profile as profile_of, register as register_of, register_after, sheet as sheet_of,
+    sheet_size, Register,
+};
 use crate::limits::*;
-use crate::steps::product_coefficient;
+use crate::steps::{product_coefficient, StepRecord};
 
 /// The number of a refusal.
 pub type Refusal = u32;
@@ -146,10 +150,35 @@ pub fn push(reading: &mut Reading, term: u32) -> Result<(), Refusal> {
 pub fn register(reading: &Reading, a: &mut [u8], b: &mut [u8]) -> Result<usize, Refusal> {
     demand(a.len() == A_BYTES && b.len() == B_BYTES, BAD_BUFFER)?;
     let held = check_reading(reading)?;
-    let register = register_of(held.modulus, &held.terms);
+    Ok(write_register(&register_of(held.modulus, &held.terms), a, b))
+}
+
+/// Writes a and b into buffers of the right lengths and returns l.
+fn write_register(register: &Register, a: &mut [u8], b: &mut [u8]) -> usize {
     write_cells(a, &register.a);
     write_cells(b, &register.b);
-    Ok(register.length)
+    register.length
+}
+
+/// Reports the register, returns l, and fills the sheet with the records of the steps:
+/// 5 (a), 5 (b), 21, 5 (the sheet). 02, A1: "A sheet of fewer records than n times the
+/// sum of the e gets 5, which for the sheet comes after 21." A longer sheet is legal:
+/// "Records past the last are unchanged."
+pub fn trace(
+    reading: &Reading,
+    a: &mut [u8],
+    b: &mut [u8],
+    sheet: &mut [StepRecord],
+) -> Result<usize, Refusal> {
+    demand(a.len() == A_BYTES, BAD_BUFFER)?;
+    demand(b.len() == B_BYTES, BAD_BUFFER)?;
+    let held = check_reading(reading)?;
+    let n = held.terms.len();
+    demand(sheet.len() >= sheet_size(held.modulus, n), BAD_BUFFER)?;
+    let histories = histories(held.modulus, &held.terms);
+    let records = sheet_of(&histories);
+    sheet[..records.len()].copy_from_slice(&records);
+    Ok(write_register(&register_after(&histories, n), a, b))
 }
 
 /// Reports the profile, zero past n: 5, 21.

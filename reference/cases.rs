@@ -7,7 +7,8 @@ use crate::limits::*;
 use crate::listing::listing;
 use crate::residue::PrimePower;
 use crate::sequences::set_cell;
-use crate::steps::{length, run, Case, Pair};
+use crate::steps::{length, run, Case, Pair, StepRecord};
+use crate::working::working;
 
 /// A case that names l, a_0 .. a_l and the first cells of b.
 type Named<'a> = (u64, &'a [u64], usize, &'a [u64], &'a [u64]);
@@ -37,7 +38,7 @@ fn bytes_of(numbers: &[u64], cells: usize) -> Vec<u8> {
 }
 
 /// A fresh reading that took the terms.
-fn reading_of(m: u64, terms: &[u64]) -> Reading {
+pub fn reading_of(m: u64, terms: &[u64]) -> Reading {
     let (mut reading, _) = open(m as u32);
     for &term in terms {
         let _ = push(&mut reading, term as u32);
@@ -45,7 +46,10 @@ fn reading_of(m: u64, terms: &[u64]) -> Reading {
     reading
 }
 
-fn report(m: u64, terms: &[u64]) -> (Result<usize, Refusal>, Vec<u64>, Vec<u64>) {
+/// The reply of a report and the cells of a and b after it.
+type Report = (Result<usize, Refusal>, Vec<u64>, Vec<u64>);
+
+fn report(m: u64, terms: &[u64]) -> Report {
     let (mut a, mut b) = ([0xff; A_BYTES], [0xff; B_BYTES]);
     let l = register(&reading_of(m, terms), &mut a, &mut b);
     (l, cells(&a), cells(&b))
@@ -155,6 +159,115 @@ pub fn tables(group: &mut Group) {
     }
 }
 
+/// Table 2 as a sheet, from the paper by hand. At k = 0, where the table has *, row 0
+/// meets row g = 0 with L = 0 and is added to b, and row 1 stays; e stands for g where
+/// a row stays.
+pub const SHEET_OF_TABLE_2: [[u32; 8]; 10] = [
+    [9, 0, 0, 0, 1, 2, 0, 2],
+    [9, 0, 1, 0, 2, 1, 2, 1],
+    [9, 1, 0, 1, 1, 1, 0, 3],
+    [9, 1, 1, 0, 2, 1, 2, 1],
+    [9, 2, 0, 1, 0, 4, 1, 2],
+    [9, 2, 1, 0, 1, 1, 0, 3],
+    [9, 3, 0, 3, 2, 1, 2, 1],
+    [9, 3, 1, 2, 2, 1, 2, 1],
+    [9, 4, 0, 3, 0, 8, 1, 3],
+    [9, 4, 1, 2, 0, 4, 1, 3],
+];
+
+/// 3,3 modulo 6 by hand: all of the prime 2 comes before the prime 3.
+const SHEET_OF_CASE_8: [[u32; 8]; 4] = [
+    [2, 0, 0, 0, 0, 1, 0, 2],
+    [2, 1, 0, 1, 0, 1, 0, 3],
+    [3, 0, 0, 0, 1, 1, 1, 1],
+    [3, 1, 0, 0, 1, 1, 1, 1],
+];
+
+/// 6,4 modulo 8 by hand: at r = 0 the older row is h = 1, not the longer version's 0.
+const SHEET_MODULO_8: [[u32; 8]; 6] = [
+    [8, 0, 0, 0, 1, 3, 1, 2],
+    [8, 0, 1, 0, 2, 1, 0, 2],
+    [8, 0, 2, 0, 3, 1, 3, 1],
+    [8, 1, 0, 1, 2, 1, 0, 3],
+    [8, 1, 1, 1, 3, 1, 3, 1],
+    [8, 1, 2, 0, 3, 1, 3, 1],
+];
+
+/// What an untouched record of a lent sheet holds.
+const LENT: [u32; 8] = [9, 8, 7, 6, 5, 4, 3, 2];
+
+/// The report that a tracing of the terms gives, and its sheet of some records.
+fn traced(m: u64, terms: &[u64], room: usize) -> (Report, Vec<[u32; 8]>) {
+    let (mut a, mut b) = ([0xff; A_BYTES], [0xff; B_BYTES]);
+    let mut sheet = vec![StepRecord::of(LENT); room];
+    let l = trace(&reading_of(m, terms), &mut a, &mut b, &mut sheet);
+    ((l, cells(&a), cells(&b)), sheet.into_iter().map(StepRecord::numbers).collect())
+}
+
+/// Sheets written out by hand, each record for itself, then the text of the working.
+pub fn sheets_by_hand(group: &mut Group) {
+    let by_hand: [(u64, &[u64], &[[u32; 8]]); 5] = [
+        (9, &[6, 3, 1, 5, 6], &SHEET_OF_TABLE_2),
+        (6, &[3, 3], &SHEET_OF_CASE_8),
+        (8, &[6, 4], &SHEET_MODULO_8),
+        (2, &[], &[]),
+        (5, &[0], &[[5, 0, 0, 0, 1, 1, 1, 1]]),
+    ];
+    for (m, terms, expected) in by_hand {
+        let plain = report(m, terms);
+        let (found, sheet) = traced(m, terms, expected.len() + 3);
+        group.check(found == plain, || format!("modulo {m}: {found:?}"));
+        for (i, record) in expected.iter().enumerate() {
+            group.check(sheet[i] == *record, || format!("modulo {m}: {:?}", sheet[i]));
+        }
+        let kept = sheet[expected.len()..] == [LENT; 3];
+        group.check(kept, || format!("modulo {m}: past the last"));
+        let exact = traced(m, terms, expected.len());
+        group.check(exact == (plain, expected.to_vec()), || format!("modulo {m}: exact room"));
+        let size = join::sheet_size(m, terms.len());
+        group.check(size == expected.len(), || format!("modulo {m}: {size} records"));
+    }
+    working_by_hand(group);
+}
+
+fn working_by_hand(group: &mut Group) {
+    let slips = [
+        slip_of(9, &[6, 3, 1, 5, 6]),
+        slip_of(1, &[]),
+        slip_of(6, &[3, 3]),
+        slip_of(2, &[]),
+        vec![0; 100],
+    ];
+    let expected = "modulus count order register
+9 5 3 1,4,7,1
+power k row length u theta g case
+9 0 0 0 1 2 0 2
+9 0 1 0 2 1 2 1
+9 1 0 1 1 1 0 3
+9 1 1 0 2 1 2 1
+9 2 0 1 0 4 1 2
+9 2 1 0 1 1 0 3
+9 3 0 3 2 1 2 1
+9 3 1 2 2 1 2 1
+9 4 0 3 0 8 1 3
+9 4 1 2 0 4 1 3
+refused 1
+6 2 1 1,3
+power k row length u theta g case
+2 0 0 0 0 1 0 2
+2 1 0 1 0 1 0 3
+3 0 0 0 1 1 1 1
+3 1 0 0 1 1 1 1
+2 0 0 1
+power k row length u theta g case
+refused 5
+";
+    let text = working(&slips.concat());
+    group.check(text == expected, || text.clone());
+    let header = working(&[]);
+    group.check(header == "modulus count order register\n", || header.clone());
+}
+
 /// Sequences whose register tells the compact version from the longer one, θ as a
 /// whole number, the inverse modulo p^e, and rows read before the step.
 pub fn named_registers(group: &mut Group) {
@@ -177,6 +290,7 @@ pub fn named_registers(group: &mut Group) {
 pub fn refusals(group: &mut Group) {
     refused_slips(group);
     refused_readings(group);
+    refused_sheets(group);
     refused_claims(group);
     refused_shelves(group);
 }
@@ -215,7 +329,8 @@ fn refused_slips(group: &mut Group) {
     }
 }
 
-fn refused_readings(group: &mut Group) {
+/// Readings that get 21, each for another reason.
+fn unsound() -> Vec<Reading> {
     let good = reading_of(9, &[6, 3]);
     let mut forged = vec![zero_reading(); 6];
     forged[1] = Reading { modulus: 4096, ..good.clone() };
@@ -223,7 +338,11 @@ fn refused_readings(group: &mut Group) {
     forged[3] = Reading { count: 1, ..good.clone() };
     forged[4].modulus = 1;
     forged[5] = Reading { modulus: 6, ..good.clone() };
-    for reading in forged {
+    forged
+}
+
+fn refused_readings(group: &mut Group) {
+    for reading in unsound() {
         let (mut a, mut b, mut cells) = ([1; A_BYTES], [2; B_BYTES], [3; PROFILE_BYTES]);
         let mut after = reading.clone();
         group.check(push(&mut after, 70000) == Err(21), || format!("{reading:?}"));
@@ -238,6 +357,47 @@ fn refused_readings(group: &mut Group) {
         group.check(outcome == Err(5), || format!("profile, short: {outcome:?}"));
         let kept = a == [1; A_BYTES] && b == [2; B_BYTES] && cells == [3; PROFILE_BYTES];
         group.check(kept, || String::from("the buffers stay"));
+    }
+}
+
+/// 5 for a and b, 21, 5 for the sheet, in this order; all is as lent then.
+fn refused_sheets(group: &mut Group) {
+    let good = reading_of(9, &[6, 3, 1, 5, 6]);
+    let fresh = reading_of(2048, &[]);
+    let full = reading_of(2048, &[1; TERMS_LIMIT]);
+    let (a, b) = (A_BYTES, B_BYTES);
+    let mut orders = vec![
+        (good.clone(), a, b, 10, Ok(3)),
+        (good.clone(), a, b, 11, Ok(3)),
+        (good.clone(), a, b, SHEET_LIMIT, Ok(3)),
+        (good.clone(), a, b, 9, Err(5)),
+        (good.clone(), a, b, 0, Err(5)),
+        (good.clone(), a - 1, b, 10, Err(5)),
+        (good.clone(), a + 1, b, 9, Err(5)),
+        (good.clone(), a, b - 1, 10, Err(5)),
+        (good.clone(), a, b + 1, 10, Err(5)),
+        (good.clone(), 0, 0, 0, Err(5)),
+        (fresh.clone(), a, b, 0, Ok(0)),
+        (fresh.clone(), a, b, 1, Ok(0)),
+        (fresh.clone(), a, 0, 0, Err(5)),
+        (full.clone(), a, b, 128 * 11, Ok(1)),
+        (full.clone(), a, b, 128 * 11 - 1, Err(5)),
+    ];
+    for reading in unsound() {
+        for room in [0, 1, 3, 4, SHEET_LIMIT] {
+            orders.push((reading.clone(), a, b, room, Err(21)));
+            orders.push((reading.clone(), a - 1, b, room, Err(5)));
+            orders.push((reading.clone(), a, b + 1, room, Err(5)));
+        }
+    }
+    for (reading, a, b, room, expected) in orders {
+        let (mut a, mut b) = (vec![1; a], vec![2; b]);
+        let lent = (a.clone(), b.clone(), vec![StepRecord::of(LENT); room]);
+        let mut sheet = lent.2.clone();
+        let outcome = trace(&reading, &mut a, &mut b, &mut sheet);
+        group.check(outcome == expected, || format!("room {room}: {outcome:?}"));
+        let kept = expected.is_ok() || (a, b, sheet) == lent;
+        group.check(kept, || format!("room {room}: all as lent"));
     }
 }
 

@@ -25,20 +25,29 @@ struct Row {
 
 /// (a_0^new, b_0^new) after the last step; (1, 0) for no terms.
 pub fn synthesize(power: PrimePower, terms: &[u64]) -> Pair {
+    noted(power, terms).0
+}
+
+/// That pair, and what the steps noted: L of the present pair, u and θ, for each step
+/// and in it for each row.
+pub fn noted(power: PrimePower, terms: &[u64]) -> (Pair, Vec<(usize, usize, u64)>) {
     let q = power.modulus();
     let remainders: Vec<u64> = terms.iter().map(|s| s % q).collect();
     if remainders.is_empty() {
-        return Pair { a: vec![1], b: Vec::new() };
+        return (Pair { a: vec![1], b: Vec::new() }, Vec::new());
     }
+    let note = |row: &Row| (length(&row.now), row.u, row.theta);
     let mut rows = step_zero(power, remainders[0]);
+    let mut notes: Vec<(usize, usize, u64)> = rows.iter().map(note).collect();
     for k in 1..remainders.len() {
         remember(power, &mut rows, k);
         for row in rows.iter_mut() {
             row.now = row.new.clone();
         }
         advance(power, &mut rows, k, &remainders);
+        notes.extend(rows.iter().map(note));
     }
-    rows[0].new.clone()
+    (rows[0].new.clone(), notes)
 }
 
 /// Step 0: a = p^η, b = 0, a^new = p^η, b^new = p^η S_0.

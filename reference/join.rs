@@ -1,9 +1,9 @@
-//! From the steps at each prime power to the register and the profile modulo m
-//! (01, end of "The steps"; 000, section 3).
+//! From the steps at each prime power to the register, the profile and the sheet
+//! modulo m (01, end of "The steps"; 000, section 3; 02, A1).
 
 use crate::limits::{A_CELLS, B_CELLS};
 use crate::residue::prime_powers;
-use crate::steps::{coefficient, length, run, History};
+use crate::steps::{coefficient, length, records, run, History, StepRecord};
 
 /// A register in the cells of a report: 129 of a, 128 of b, zero past the length.
 #[derive(Clone, PartialEq, Eq, Debug)]
@@ -43,6 +43,16 @@ pub fn length_after(histories: &[History], k: usize) -> usize {
 pub fn profile(m: u64, terms: &[u64]) -> Vec<usize> {
     let histories = histories(m, terms);
     (0..=terms.len()).map(|k| length_after(&histories, k)).collect()
+}
+
+/// The step records: "prime rising, then k, then η".
+pub fn sheet(histories: &[History]) -> Vec<StepRecord> {
+    histories.iter().flat_map(records).collect()
+}
+
+/// How many records a sheet must have room for: "n times the sum of the e".
+pub fn sheet_size(m: u64, n: usize) -> usize {
+    n * prime_powers(m).iter().map(|power| power.e).sum::<usize>()
 }
 
 /// Joins the remainders that the histories give.

@@ -27,3 +27,7 @@ pub const RECORD_BYTES: usize = 776;
 pub const RECORD_LENGTH_AT: usize = 260;
 pub const RECORD_A_AT: usize = 262;
 pub const RECORD_B_AT: usize = 520;
+
+/// The step records of the longest sheet there can be: n times the sum of the e, and
+/// that sum is at most 15, because 2^16 is above 65,535.
+pub const SHEET_LIMIT: usize = TERMS_LIMIT * 15;

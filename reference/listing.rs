@@ -1,15 +1,23 @@
 //! The listing of 01: slips in, one line of text for each out.
 
-use crate::calls::{check_slip, Refusal, BAD_BUFFER};
-use crate::join::register;
+use crate::calls::{check_slip, Refusal, Sequence, BAD_BUFFER};
+use crate::join::{register, Register};
 use crate::limits::SLIP_BYTES;
 
-/// "Writes a header, then a line for each." Each line ends in a line feed.
+pub const HEADER: &str = "modulus count order register";
+
+/// "Writes a header, then a line for each."
 pub fn listing(slips: &[u8]) -> String {
-    let mut text = String::from("modulus count order register\n");
+    for_each_slip(slips, |sequence| line(sequence, &register(sequence.modulus, &sequence.terms)))
+}
+
+/// The header, then for each slip what `entry` gives for it, or its refusal. Each line
+/// ends in a line feed; the last one of an entry gets it here.
+pub fn for_each_slip(slips: &[u8], entry: impl Fn(&Sequence) -> String) -> String {
+    let mut text = format!("{HEADER}\n");
     for piece in slips.chunks(SLIP_BYTES) {
-        match entry(piece) {
-            Ok(line) => text.push_str(&line),
+        match checked(piece) {
+            Ok(sequence) => text.push_str(&entry(&sequence)),
             Err(number) => text.push_str(&format!("refused {number}")),
         }
         text.push('\n');
@@ -17,14 +25,17 @@ pub fn listing(slips: &[u8]) -> String {
     text
 }
 
-/// "Modulus, count, order (the length), and a_0 to a_l with commas."
-fn entry(piece: &[u8]) -> Result<String, Refusal> {
+/// 5 for a last piece that is cut short, then 1 to 4.
+fn checked(piece: &[u8]) -> Result<Sequence, Refusal> {
     if piece.len() != SLIP_BYTES {
         return Err(BAD_BUFFER);
     }
-    let sequence = check_slip(piece)?;
-    let register = register(sequence.modulus, &sequence.terms);
+    check_slip(piece)
+}
+
+/// "Modulus, count, order (the length), and a_0 to a_l with commas."
+pub fn line(sequence: &Sequence, register: &Register) -> String {
     let a: Vec<String> = register.a[..=register.length].iter().map(u64::to_string).collect();
     let count = sequence.terms.len();
-    Ok(format!("{} {} {} {}", sequence.modulus, count, register.length, a.join(",")))
+    format!("{} {} {} {}", sequence.modulus, count, register.length, a.join(","))
 }

@@ -1,6 +1,7 @@
 //! The second program: written from the papers alone, to be compared with.
 //! README.md tells the commands and formats.
 
+mod apply;
 mod calls;
 mod cases;
 mod checks;
@@ -15,13 +16,16 @@ mod scenarios;
 mod script;
 mod selftest;
 mod sequences;
+mod sheets;
 mod steps;
+mod working;
 
 use std::io::{Read, Write};
 use std::process::ExitCode;
 
 const USAGE: &str = "usage: reference COMMAND
   listing                 slips on standard input to the listing
+  working                 slips on standard input to the listing with each sheet
   replay                  a script on standard input to the expected text
   slips SEED COUNT        random slips
   calls SEED COUNT        a script of random lists of calls on a reading
@@ -35,6 +39,7 @@ fn main() -> ExitCode {
     let words: Vec<&str> = arguments.iter().map(String::as_str).collect();
     match words[..] {
         ["listing"] => with_input(|input| (listing::listing(input).into_bytes(), true)),
+        ["working"] => with_input(|input| (working::working(input).into_bytes(), true)),
         ["replay"] => with_input(|input| {
             let (text, whole) = script::replay(input);
             (text.into_bytes(), whole)

@@ -1,11 +1,11 @@
 //! Random scripts: lists of calls on a reading, candidates for testing and
 //! running, catalogues for serving and making.
 
-use crate::calls::{outputs, record_with, slip_of};
-use crate::join::{register as register_of, Register};
+use crate::calls::{outputs, record_with, slip_of, zero_reading, Reading};
+use crate::join::{register as register_of, sheet_size, Register};
 use crate::limits::*;
 use crate::random::Random;
-use crate::script::{Call, Operation};
+use crate::script::{line, Call, Operation};
 use crate::sequences::{
     any_slip, count, damage, good_slip, modulus, register, set_cell, structured, terms, uniform,
 };
@@ -13,6 +13,9 @@ use crate::sequences::{
 /// Numbers that no modulus, term or length may be; the last ones would pass if
 /// they were cut to two bytes.
 const WILD_MODULI: [u32; 8] = [0, 1, 4096, 65535, 65536, 65536 + 9, 0x0001_0002, u32::MAX];
+
+/// The lengths of a and b as a report must be lent them.
+const REPORT_LENGTHS: [u16; 3] = [A_BYTES as u16, B_BYTES as u16, 0];
 
 /// A buffer length that is mostly right, else 0, one less or one more.
 fn nearly(random: &mut Random, right: usize) -> u16 {
@@ -47,8 +50,25 @@ fn written(calls: &[Call]) -> Vec<u8> {
 
 // ---- lists of calls on a reading ----
 
+/// A list under way and the reading held at its end, which tells the room that a
+/// sheet needs there.
+struct List {
+    calls: Vec<Call>,
+    held: Reading,
+}
+
+impl List {
+    fn add(&mut self, call: Call) {
+        // Only these change the reading; the others need not be made here.
+        if matches!(call.operation, Operation::Open | Operation::Push | Operation::Forge) {
+            line(&call, &mut self.held);
+        }
+        self.calls.push(call);
+    }
+}
+
 /// `calls SEED COUNT`: that many lists, each of which starts with an opening or a
-/// forged reading and ends with a report and a profile.
+/// forged reading and ends with a report and a profile, mostly followed by tracings.
 pub fn calls(seed: u64, lists: u64) -> Vec<u8> {
     let mut random = Random::new(seed);
     let mut script = Vec::new();
@@ -60,19 +80,67 @@ pub fn calls(seed: u64, lists: u64) -> Vec<u8> {
 
 fn list(random: &mut Random) -> Vec<Call> {
     let m = modulus(random);
-    let mut list = vec![opening(random, m)];
+    let mut list = List { calls: Vec::new(), held: zero_reading() };
+    list.add(opening(random, m));
     for term in planned_terms(random, m) {
         while random.once_in(8) {
-            list.push(side_call(random, m));
+            let call = side_call(random, m, &list.held);
+            list.add(call);
         }
-        list.push(plain(random, Operation::Push, term as u32, [0; 3]));
+        list.add(plain(random, Operation::Push, term as u32, [0; 3]));
     }
     while random.once_in(2) {
-        list.push(side_call(random, m));
+        let call = side_call(random, m, &list.held);
+        list.add(call);
     }
-    list.push(plain(random, Operation::Register, 0, [A_BYTES as u16, B_BYTES as u16, 0]));
-    list.push(plain(random, Operation::Profile, 0, [PROFILE_BYTES as u16, 0, 0]));
-    list
+    list.add(plain(random, Operation::Register, 0, REPORT_LENGTHS));
+    list.add(plain(random, Operation::Profile, 0, [PROFILE_BYTES as u16, 0, 0]));
+    last_tracings(random, &mut list);
+    list.calls
+}
+
+/// Mostly one with right buffers, then perhaps others; in one list of six also those
+/// of a reading that is mostly not sound.
+fn last_tracings(random: &mut Random, list: &mut List) {
+    if !random.once_in(4) {
+        let room = room(random, &list.held);
+        list.add(plain(random, Operation::Trace, room, REPORT_LENGTHS));
+    }
+    while random.once_in(2) {
+        let call = tracing(random, &list.held);
+        list.add(call);
+    }
+    if random.once_in(6) {
+        list.add(forge(random));
+        unsound_tracings(random, list);
+    }
+}
+
+/// Where the reading is not sound: 21 before the 5 of a sheet, and the 5 of a, and of
+/// b, before 21.
+fn unsound_tracings(random: &mut Random, list: &mut List) {
+    let [a, b, _] = REPORT_LENGTHS;
+    for lengths in [[a, b, 0], [a - 1, b, 0], [a, b + 1, 0]] {
+        let room = room(random, &list.held);
+        list.add(plain(random, Operation::Trace, room, lengths));
+    }
+    list.add(plain(random, Operation::Trace, 0, REPORT_LENGTHS));
+    list.add(plain(random, Operation::Trace, u32::MAX, REPORT_LENGTHS));
+}
+
+/// A tracing with buffers that are mostly right.
+fn tracing(random: &mut Random, held: &Reading) -> Call {
+    let lengths = [nearly(random, A_BYTES), nearly(random, B_BYTES), 0];
+    let room = room(random, held);
+    plain(random, Operation::Trace, room, lengths)
+}
+
+/// Records of a sheet: as many as are needed, one less, one more, or far from it. A
+/// reading that is not sound is counted as if it were.
+fn room(random: &mut Random, held: &Reading) -> u32 {
+    let needed = sheet_size(u64::from(held.modulus), held.count as usize) as u32;
+    let (short, long) = (needed.saturating_sub(1), needed + 1);
+    random.pick(&[needed, needed, short, long, 0, SHEET_LIMIT as u32, u32::MAX])
 }
 
 /// Mostly a legal opening, sometimes a refused one or a forged reading.
@@ -99,10 +167,10 @@ fn planned_terms(random: &mut Random, m: u64) -> Vec<u64> {
     terms(random, m, n)
 }
 
-/// A report, a profile, a term that is out of range, now and then a forged
-/// reading or another opening.
-fn side_call(random: &mut Random, m: u64) -> Call {
-    match random.below(100) {
+/// A report, a profile, a term that is out of range, a tracing, now and then a
+/// forged reading or another opening.
+fn side_call(random: &mut Random, m: u64, held: &Reading) -> Call {
+    match random.below(130) {
         0 => forge(random),
         1 => opening(random, m),
         2..=35 => {
@@ -113,6 +181,7 @@ fn side_call(random: &mut Random, m: u64) -> Call {
             let lengths = [nearly(random, PROFILE_BYTES), 0, 0];
             plain(random, Operation::Profile, 0, lengths)
         }
+        70..=99 => tracing(random, held),
         _ => {
             let low = m as u32;
             let term = random.pick(&[low, low + 1, 65535, 65536, 65537, low + 65536, u32::MAX]);

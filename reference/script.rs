@@ -1,7 +1,8 @@
 //! The byte script of calls, and its replay as text. README.md has the format.
 
 use crate::calls::{self, Reading, Refusal, Served, Verdict};
-use crate::limits::SLIP_BYTES;
+use crate::limits::{SHEET_LIMIT, SLIP_BYTES};
+use crate::steps::StepRecord;
 
 pub const HEADER_BYTES: usize = 16;
 
@@ -17,9 +18,10 @@ pub enum Operation {
     Synthesize = 6,
     LookUp = 7,
     Forge = 8,
+    Trace = 9,
 }
 
-const OPERATIONS: [(Operation, &str); 9] = [
+const OPERATIONS: [(Operation, &str); 10] = [
     (Operation::Open, "open"),
     (Operation::Push, "push"),
     (Operation::Register, "register"),
@@ -29,10 +31,11 @@ const OPERATIONS: [(Operation, &str); 9] = [
     (Operation::Synthesize, "synthesize"),
     (Operation::LookUp, "look_up"),
     (Operation::Forge, "forge"),
+    (Operation::Trace, "trace"),
 ];
 
-/// One call of a script. `number` is the modulus, the term or the l of a test;
-/// `l` is the l of a run.
+/// One call of a script. `number` is the modulus, the term, the l of a test or the
+/// records of a sheet; `l` is the l of a run.
 #[derive(Clone, PartialEq, Eq, Debug)]
 pub struct Call {
     pub operation: Operation,
@@ -161,7 +164,7 @@ pub fn replay(script: &[u8]) -> (String, bool) {
 }
 
 /// The name, the reply, and a hash for each writable thing that was lent.
-fn line(call: &Call, reading: &mut Reading) -> String {
+pub fn line(call: &Call, reading: &mut Reading) -> String {
     let mut buffers = call.buffers();
     let reply = match perform(call, reading, &mut buffers) {
         Ok(reply) => reply,
@@ -176,6 +179,7 @@ fn line(call: &Call, reading: &mut Reading) -> String {
         Operation::Verify => vec![],
         Operation::Generate | Operation::LookUp => vec![third],
         Operation::Synthesize => vec![second],
+        Operation::Trace => vec![first, second, third],
     };
     let mut line = format!("{} {}", OPERATIONS[call.operation as usize].1, reply);
     for bytes in writable {
@@ -212,7 +216,34 @@ fn perform(
             *reading = reading_from(first);
             Ok(String::from("ok"))
         }
+        Operation::Trace => {
+            let (outcome, filled) = traced(call, reading, first, second);
+            *third = filled;
+            outcome.map(|l| format!("length {l}"))
+        }
     }
+}
+
+/// Makes a tracing; its outcome, and the bytes of the records that were filled. The
+/// script may tell of more room than there is memory for. What is past the longest
+/// sheet would only stay as it is, so it is not lent.
+fn traced(
+    call: &Call,
+    reading: &Reading,
+    a: &mut [u8],
+    b: &mut [u8],
+) -> (Result<usize, Refusal>, Vec<u8>) {
+    let lent = StepRecord::of([u32::from_le_bytes([call.fill; 4]); 8]);
+    let mut sheet = vec![lent; (call.number as usize).min(SHEET_LIMIT)];
+    let outcome = calls::trace(reading, a, b, &mut sheet);
+    // A filled record is not as lent: no prime power here has four equal bytes.
+    let filled = sheet.into_iter().filter(|record| *record != lent);
+    (outcome, filled.flat_map(record_bytes).collect())
+}
+
+/// The eight numbers of a record, four bytes each, low byte first.
+pub fn record_bytes(record: StepRecord) -> Vec<u8> {
+    record.numbers().into_iter().flat_map(u32::to_le_bytes).collect()
 }
 
 fn verdict_word(verdict: Verdict) -> String {

@@ -13,13 +13,15 @@ use crate::residue::{inverse, prime_powers};
 use crate::scenarios;
 use crate::script::replay;
 use crate::sequences;
+use crate::sheets;
 use crate::steps::{self, coefficient, length, Pair};
 
 /// True if every group passes.
 pub fn selftest() -> bool {
-    let groups: [(&str, fn(&mut Group)); 14] = [
+    let groups: [(&str, fn(&mut Group)); 21] = [
         ("cases 1 to 15", cases::cases),
         ("tables 1 and 2 of 000", cases::tables),
+        ("sheets and their text by hand", cases::sheets_by_hand),
         ("registers named in the papers", cases::named_registers),
         ("orders of refusals", cases::refusals),
         ("inverses, prime powers, remainders", arithmetic),
@@ -32,6 +34,12 @@ pub fn selftest() -> bool {
         ("reported registers", registers),
         ("lists of calls, making and serving", desk),
         ("scripts and listing", scripts),
+        ("sheets applied give the register", sheets::applied),
+        ("sheets applied, moduli to 65,535", sheets::applied_wide),
+        ("sheets keep the rules of the steps", sheets::rules),
+        ("sheets and the compact version agree", sheets::versions),
+        ("tracings, what is filled and what stays", sheets::tracings),
+        ("tracings in scripts, and the working's text", sheets::texts),
     ];
     let mut passed = true;
     for (name, work) in groups {
@@ -70,7 +78,7 @@ fn arithmetic(group: &mut Group) {
 }
 
 /// A random legal modulus with terms of a random kind.
-fn sample(random: &mut Random, longest: usize) -> (u64, Vec<u64>) {
+pub fn sample(random: &mut Random, longest: usize) -> (u64, Vec<u64>) {
     let m = sequences::modulus(random);
     let n = random.between(0, longest as u64) as usize;
     let terms = sequences::terms(random, m, n);
@@ -286,7 +294,7 @@ fn scripts(group: &mut Group) {
         }
     }
     group.check(replay(&[]) == (String::new(), true), || String::from("no calls"));
-    group.check(replay(&[9; 16]).0 == "script unknown 9\n", || String::from("unknown"));
+    group.check(replay(&[10; 16]).0 == "script unknown 10\n", || String::from("unknown"));
     listings(group);
 }
 

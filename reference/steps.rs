@@ -22,6 +22,17 @@ pub enum Case {
     Cancelled,
 }
 
+impl Case {
+    /// 02, A1: "the case: 1 stays, 2 added to b, 3 cancelled by an older row".
+    pub fn number(self) -> u32 {
+        match self {
+            Case::Stays => 1,
+            Case::Added => 2,
+            Case::Cancelled => 3,
+        }
+    }
+}
+
 /// What a step found for a row: d, its u and θ, and the case.
 #[derive(Clone, Copy, PartialEq, Eq, Debug)]
 pub struct Finding {
@@ -37,6 +48,34 @@ pub struct History {
     pub power: PrimePower,
     pub rows: Vec<Vec<Pair>>,
     pub findings: Vec<Vec<Finding>>,
+}
+
+/// A line of the sheet. 02, A1: "Each record has the prime power, k, η, the row's
+/// length before the step, u, θ, g (e where the row stays) and the case". Lent
+/// records may hold anything.
+#[derive(Clone, Copy, PartialEq, Eq, Debug)]
+pub struct StepRecord {
+    pub power: u32,
+    pub k: u32,
+    pub eta: u32,
+    pub length: u32,
+    pub u: u32,
+    pub theta: u32,
+    pub g: u32,
+    pub case: u32,
+}
+
+impl StepRecord {
+    /// The eight numbers in the order of the paper.
+    pub fn numbers(self) -> [u32; 8] {
+        let StepRecord { power, k, eta, length, u, theta, g, case } = self;
+        [power, k, eta, length, u, theta, g, case]
+    }
+
+    /// The record with these numbers.
+    pub fn of([power, k, eta, length, u, theta, g, case]: [u32; 8]) -> StepRecord {
+        StepRecord { power, k, eta, length, u, theta, g, case }
+    }
 }
 
 /// Coefficient i, missing ones being zero.
@@ -152,6 +191,33 @@ fn cancelled(history: &History, k: usize, eta: usize) -> Pair {
 /// "Let r be the last step at which row g's L grew", among the steps before k.
 fn last_growth(history: &History, g: usize, k: usize) -> Option<usize> {
     (0..k).rev().find(|&r| length(&history.rows[r + 1][g]) > length(&history.rows[r][g]))
+}
+
+/// The records of all steps: k rising, then η.
+pub fn records(history: &History) -> Vec<StepRecord> {
+    let mut records = Vec::new();
+    for k in 0..history.findings.len() {
+        for eta in 0..history.power.e {
+            records.push(record(history, k, eta));
+        }
+    }
+    records
+}
+
+/// What step k did with row η. A row that stays has no g of its own: e stands there.
+fn record(history: &History, k: usize, eta: usize) -> StepRecord {
+    let e = history.power.e;
+    let Finding { u, theta, case, .. } = history.findings[k][eta];
+    StepRecord {
+        power: history.power.modulus() as u32,
+        k: k as u32,
+        eta: eta as u32,
+        length: length(&history.rows[k][eta]) as u32,
+        u: u as u32,
+        theta: theta as u32,
+        g: (if case == Case::Stays { e } else { e - 1 - u }) as u32,
+        case: case.number(),
+    }
 }
 
 /// target - factor × source × x^places modulo q.

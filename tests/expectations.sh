@@ -1,6 +1,6 @@
 #!/usr/bin/env bash
 # Makes what the programs are run on, and what they have to write, again from the seeds, by the second program alone:
-# replay/stdin, replay/stdout, listing/stdin and listing/stdout below the folder OUTPUT.
+# stdin and stdout in each of replay, listing and working below the folder OUTPUT.
 # Usage: expectations.sh REFERENCE OUTPUT, or expectations.sh REFERENCE --store, which overwrites the stored ones.
 # REFERENCE is the built second program (reference/build.sh).
 set -euo pipefail
@@ -8,7 +8,7 @@ set -euo pipefail
 reference=$1
 output=$2
 [ "$output" != --store ] || output=$(dirname "$0")/../crates
-mkdir -p "$output/replay" "$output/listing"
+mkdir -p "$output/replay" "$output/listing" "$output/working"
 
 # Lists of calls, candidates, catalogues: each operation and each refusal that it has.
 {
@@ -24,3 +24,10 @@ mkdir -p "$output/replay" "$output/listing"
     head -c 100 /dev/zero
 } >"$output/listing/stdin"
 "$reference" listing <"$output/listing/stdin" >"$output/listing/stdout"
+
+# 160 queries with their sheets, then such a piece.
+{
+    "$reference" slips 31 160
+    head -c 100 /dev/zero
+} >"$output/working/stdin"
+"$reference" working <"$output/working/stdin" >"$output/working/stdout"

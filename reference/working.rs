@@ -1,0 +1,27 @@
+//! The working, shown (02, A1): the listing's line of each slip, then its sheet.
+
+use crate::calls::Sequence;
+use crate::join::{histories, register_after, sheet};
+use crate::listing::{for_each_slip, line};
+use crate::steps::StepRecord;
+
+pub const SHEET_HEADER: &str = "power k row length u theta g case";
+
+/// The listing's header once; for each slip its refusal alone, or the listing's line,
+/// the header of a sheet and a line for each record.
+pub fn working(slips: &[u8]) -> String {
+    for_each_slip(slips, entry)
+}
+
+fn entry(sequence: &Sequence) -> String {
+    let histories = histories(sequence.modulus, &sequence.terms);
+    let register = register_after(&histories, sequence.terms.len());
+    let mut lines = vec![line(sequence, &register), String::from(SHEET_HEADER)];
+    lines.extend(sheet(&histories).into_iter().map(record_line));
+    lines.join("\n")
+}
+
+/// The eight numbers with single blanks.
+fn record_line(record: StepRecord) -> String {
+    record.numbers().map(|number| number.to_string()).join(" ")
+}
