@@ -40,7 +40,7 @@ module _ (m : ℕ) (least : 2 ≤ m) (most : m ≤ maxModulus) (ts : List ℕ) (
   big = least
 
   -- the padding does not count
-  alike : (k : ℕ) → k ≤ length ts → Alike m (padded ts) ts k
+  pub alike : (k : ℕ) → k ≤ length ts → Alike m (padded ts) ts k
   alike k h j l = of-eq (padded-at ts j (omega arith))
 
   pub same-register : registerOf (holding m ts) ≡ T.register m ts (length ts)

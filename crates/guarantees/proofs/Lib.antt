@@ -1,5 +1,6 @@
 pub mod State
 pub mod Demand
+pub mod Working
 pub mod Records
 pub mod Cases
 pub mod Numbers

@@ -13,22 +13,28 @@ use Rattle.residue.specs.Remainders.{joined}
 use Rattle.recurrence.specs.Polynomial.{conv, plus, times, up, top, degree, len}
 use Rattle.recurrence.specs.Steps.{discrepancy, caseOf, partner, multiplier, change, remembered, older, noOlder, next, history, rowAt}
 use Rattle.recurrence.specs.Register.{part, parts, complexity, coefficient, register}
+use Rattle.recurrence.specs.Working.{caseNumber, partnerTold, stepAt, stepsAt, stepsOver, sheetOf, rowsOver}
 use Rattle.recurrence.specs.Running.{cell, generated, firstDifference}
 use Rattle.sequence.specs.Answers.{firstOf}
 use Rattle.sequence.specs.Rules.{faultOf, openOf, pushOf, sequenceOf}
+use Rattle.sequence.specs.Trace.{traceOf}
 use Rattle.candidate.specs.Rules.{flawOf, judgeOf, verifyAnswer, generateAnswer}
 use Rattle.catalogue.specs.Rules.{layout, recordOf, synthesizeAnswer, firstMatch, passes, lookUpAnswer}
 use Rattle.guarantees.specs.Calls.{afterAll}
 use Rattle.guarantees.specs.Numbers.{Numbers, Orders}
 
 pub numbers : Numbers
-unfolding tabulate largest first all every sumTo bytesOf equal neg inverse valuation cofactor leastDivisor leastPower powersUpTo primePowers joined conv plus times up top degree len discrepancy caseOf partner multiplier change remembered older noOlder next history rowAt part parts complexity coefficient register cell generated firstDifference firstOf faultOf openOf pushOf afterAll sequenceOf flawOf judgeOf verifyAnswer generateAnswer layout recordOf synthesizeAnswer firstMatch passes lookUpAnswer
+unfolding tabulate largest first all every sumTo bytesOf equal neg inverse valuation cofactor leastDivisor leastPower powersUpTo primePowers joined conv plus times up top degree len discrepancy caseOf partner multiplier change remembered older noOlder next history rowAt part parts complexity coefficient register caseNumber partnerTold stepAt stepsAt stepsOver sheetOf rowsOver traceOf cell generated firstDifference firstOf faultOf openOf pushOf afterAll sequenceOf flawOf judgeOf verifyAnswer generateAnswer layout recordOf synthesizeAnswer firstMatch passes lookUpAnswer
 numbers =
     record {
       opened = refl;
       pushed = refl;
       reported = refl;
       profiled = refl;
+      traced = refl;
+      traced-longer = refl;
+      traced-sheet = refl;
+      traced-short = refl;
       yes = refl;
       no-at-3 = refl;
       ran = refl;
@@ -44,6 +50,8 @@ numbers =
       refused-4 = refl;
       refused-5 = refl;
       refused-5-odd = refl;
+      refused-5-sheet = refl;
+      refused-5-sheet-primes = refl;
       refused-6-long = refl;
       refused-6-a = refl;
       refused-6-b = refl;
@@ -54,6 +62,7 @@ numbers =
       refused-21-count = refl;
       refused-21-term = refl;
       refused-21-padding = refl;
+      refused-21-traced = refl;
       refused-22 = refl;
       refused-23 = refl;
       refused-24-flawed = refl;
@@ -61,12 +70,14 @@ numbers =
     }
 
 pub orders : Orders
-unfolding tabulate largest first all every sumTo bytesOf equal neg inverse valuation cofactor leastDivisor leastPower powersUpTo primePowers joined conv plus times up top degree len discrepancy caseOf partner multiplier change remembered older noOlder next history rowAt part parts complexity coefficient register cell generated firstDifference firstOf faultOf openOf pushOf afterAll sequenceOf flawOf judgeOf verifyAnswer generateAnswer layout recordOf synthesizeAnswer firstMatch passes lookUpAnswer
+unfolding tabulate largest first all every sumTo bytesOf equal neg inverse valuation cofactor leastDivisor leastPower powersUpTo primePowers joined conv plus times up top degree len discrepancy caseOf partner multiplier change remembered older noOlder next history rowAt part parts complexity coefficient register caseNumber partnerTold stepAt stepsAt stepsOver sheetOf rowsOver traceOf cell generated firstDifference firstOf faultOf openOf pushOf afterAll sequenceOf flawOf judgeOf verifyAnswer generateAnswer layout recordOf synthesizeAnswer firstMatch passes lookUpAnswer
 orders =
     record {
       push-21-22 = refl;
       push-22-3 = refl;
       report-5-21 = refl;
+      trace-5-21 = refl;
+      trace-21-5 = refl;
       profile-5-21 = refl;
       query-5-1 = refl;
       query-1-2 = refl;

@@ -20,7 +20,7 @@ use Rattle.sequence.specs.declared.Pushed.{Pushed}
 use Rattle.sequence.specs.Limits.{maxModulus, maxTerms}
 use Rattle.sequence.specs.Rules.{openOf, pushOf, faultOf, isSound, IsSound}
 use Rattle.sequence.proofs.Laws.{is-sound, open-done, push-done, push-full, push-large}
-use Rattle.guarantees.specs.Calls.{Call, push, register, profile, afterAll, takes, takenFrom, taken}
+use Rattle.guarantees.specs.Calls.{Call, push, register, profile, trace, afterAll, takes, takenFrom, taken}
 
 -- the terms in an array of 128, zero past the last
 abbrev pub padded : List ℕ → List ℕ
@@ -123,6 +123,7 @@ module _ (m : ℕ) (least : 2 ≤ m) (most : m ≤ maxModulus) where
       (ap (λ (z : Sequence). afterAll z cs) (push-for ts t g) ∙ h .0, h .1)
   after-from (register a b ∷ cs) ts g = after-from cs ts g
   after-from (profile c ∷ cs) ts g = after-from cs ts g
+  after-from (trace a b sheet ∷ cs) ts g = after-from cs ts g
 
   pub opens : openOf m .outcome ≡ Done
   opens = ap (λ (x : Opened). x .outcome) (open-done m least most)

@@ -1,25 +1,28 @@
--- A list of calls on one sequence: pushes, registers and profiles, in any order, with any terms and buffers.
+-- A list of calls on one sequence: pushes, registers, profiles and traces, in any order, with any terms, buffers and sheets.
 -- Assumes nothing.
 use mathlib.Core.List.{List, [], _∷_, _++_}
 use Prim.Native.Nat.{ℕ}
 use lib.Dec.{ltb}
 use lib.ListN.{length}
 use Rattle.lists.specs.Choice.{pick}
+use Rattle.steps.specs.declared.StepRecord.{StepRecord}
 use Rattle.sequence.specs.declared.Sequence.{Sequence}
 use Rattle.sequence.specs.Limits.{maxTerms}
 use Rattle.sequence.specs.Rules.{pushOf}
 
--- a call with what it is handed beside the sequence: a term, or the lent buffers as they are
+-- a call with what it is handed beside the sequence: a term, or what is lent to it as it is
 pub data Call : Type 0 where
   push : ℕ → Call
   register : List ℕ → List ℕ → Call
   profile : List ℕ → Call
+  trace : List ℕ → List ℕ → List StepRecord → Call
 
 -- the sequence after a call: as the reply to a push returns it, and untouched by the others
 abbrev pub after : Sequence → Call → Sequence
 after s (push t) = pushOf s t .sequence
 after s (register a b) = s
 after s (profile cells) = s
+after s (trace a b sheet) = s
 
 -- after a list of calls, each handed the sequence that the call before left
 unfoldable pub afterAll : Sequence → List Call → Sequence
@@ -31,6 +34,7 @@ abbrev pub takes : ℕ → List ℕ → Call → List ℕ
 takes m ts (push t) = pick (ltb t m) (pick (ltb (length ts) maxTerms) (ts ++ (t ∷ [])) ts) ts
 takes m ts (register a b) = ts
 takes m ts (profile cells) = ts
+takes m ts (trace a b sheet) = ts
 
 unfoldable pub takenFrom : ℕ → List ℕ → List Call → List ℕ
 takenFrom m ts [] = ts

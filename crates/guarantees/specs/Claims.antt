@@ -1,24 +1,30 @@
--- The claims about every list of calls, about records made and served, and about testing and running.
+-- The claims about every list of calls, about the working, about records made and served, and about testing and running.
 -- Assumes nothing.
 use mathlib.Core.Path.{_≡_}
 use mathlib.Core.Logic.{_⊎_}
-use mathlib.Core.List.{List, map}
+use mathlib.Core.List.{List, _++_, map}
 use Prim.Native.Nat.{ℕ, zero, _+_, _*_, _%_, _≤_, _<_}
 use lib.ListN.{length, take, drop}
 use Rattle.lists.specs.Table.{at, tabulate}
 use Rattle.cells.specs.Cell.{cellAt, bytesOf}
+use Rattle.residue.specs.Factors.{primePowers}
 use Rattle.recurrence.specs.Polynomial.{Generates}
 use Rattle.recurrence.specs.Least.{Least}
 use Rattle.recurrence.specs.Register as T
 use Rattle.recurrence.specs.Register.{pairOf}
+use Rattle.recurrence.specs.Working.{sheetOf, rowsOver, replay}
+use Rattle.steps.specs.declared.StepRecord.{StepRecord}
+use Rattle.steps.specs.Log.{stepRecord, stepOf}
 use Rattle.sequence.specs.declared.Sequence.{Sequence}
 use Rattle.sequence.specs.declared.Outcome.{Outcome}
 use Rattle.sequence.specs.declared.Outcome.the-variants.{Done}
 use Rattle.sequence.specs.declared.Reported.{Reported}
-use Rattle.sequence.specs.declared.Reported.the-variants.{Length}
+use Rattle.sequence.specs.declared.Refusal.the-variants.{Buffer}
+use Rattle.sequence.specs.declared.Reported.the-variants.{Length, Refused}
 use Rattle.sequence.specs.Limits.{maxModulus, maxTerms, maxCells, aBytes, bBytes, profileBytes}
 use Rattle.sequence.specs.Rules.{openOf, sequenceOf, checkOf}
 use Rattle.sequence.specs.Report.{reportOf, aBuffer, bBuffer, written, profileOf, profileBuffer, filled}
+use Rattle.sequence.specs.Trace.{recordsOf, traceOf, sheetFilled}
 use Rattle.candidate.specs.declared.Verdict.the-variants.{Yes, No}
 use Rattle.candidate.specs.declared.Flaw.the-variants.{Fine}
 use Rattle.candidate.specs.Rules.{aCells, bCells, flawOf, verifyOf, generateOf, generatedIn}
@@ -59,6 +65,38 @@ pub record EveryList (m : ℕ) : Type 0 where
 
 unfoldable pub Demand3 : Type 0
 Demand3 = (m : ℕ) → 2 ≤ m → m ≤ maxModulus → EveryList m
+
+-- ---- the working
+
+-- What a trace of the terms ts modulo m must show: r is its reply, a, b and sheet what was lent to it, at exit; the sheet was `lent`.
+pub record Works (m : ℕ) (ts : List ℕ) (r : Reported) (a b : List ℕ) (lent sheet : List StepRecord) : Type 0 where
+  -- it is not refused, and the register is the one that a register of the same terms shows
+  pub reported : r ≡ Length (T.register m ts (length ts) .length)
+  pub a-cells : a ≡ bytesOf (tabulate maxCells (at (T.register m ts (length ts) .a)))
+  pub b-cells : b ≡ bytesOf (tabulate maxTerms (at (T.register m ts (length ts) .b)))
+  -- the sheet holds the working of the terms, and past its last record what was lent
+  pub records : sheet ≡ map stepRecord (sheetOf m ts (length ts)) ++ drop (length ts * rowsOver (primePowers m)) lent
+  pub number : length (sheetOf m ts (length ts)) ≡ length ts * rowsOver (primePowers m)
+  -- applying the cases that stand in the sheet, in order, gives that register
+  pub replays : replay m (length ts) (map stepOf sheet) ≡ T.register m ts (length ts)
+
+-- the trace of a sequence shows it
+abbrev pub WorkedBy : ℕ → List ℕ → Sequence → List ℕ → List ℕ → List StepRecord → Type 0
+WorkedBy m ts s a b lent =
+    let r = traceOf s a b (length lent) in
+    Works m ts r (written r (aBuffer s) a) (written r (bBuffer s) b) lent (sheetFilled r (recordsOf s) lent)
+
+-- A trace of the sequence s of terms ts: one whose sheet has n records for each row shows the working, and one whose sheet has fewer is
+-- refused by 5 (and then all that was lent is as it was).
+pub record EveryTrace (m : ℕ) (ts : List ℕ) (s : Sequence) (a b : List ℕ) (lent : List StepRecord) : Type 0 where
+  pub works : length ts * rowsOver (primePowers m) ≤ length lent → WorkedBy m ts s a b lent
+  pub short : length lent < length ts * rowsOver (primePowers m) → traceOf s a b (length lent) ≡ Refused Buffer
+
+-- For every modulus within the limits, after every list of calls, of the terms taken.
+unfoldable pub TheWorking : Type 0
+TheWorking =
+    (m : ℕ) → 2 ≤ m → m ≤ maxModulus → (calls : List Call) (a b : List ℕ) (lent : List StepRecord) → length a ≡ aBytes → length b ≡ bBytes
+    → EveryTrace m (taken m calls) (afterAll (openOf m .sequence) calls) a b lent
 
 -- ---- records made and served
 

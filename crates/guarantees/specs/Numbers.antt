@@ -3,13 +3,16 @@
 use mathlib.Core.Path.{_≡_}
 use mathlib.Core.List.{List, [], _∷_, _++_}
 use Prim.Native.Nat.{ℕ, _+_, _*_, _-_}
+use lib.ListN.{length, replicate}
 use Rattle.lists.specs.Table.{at, tabulate}
 use Rattle.cells.specs.Cell.{bytesOf}
+use Rattle.steps.specs.declared.StepRecord.{StepRecord}
 use Rattle.sequence.specs.declared.Sequence.{Sequence}
 use Rattle.sequence.specs.Limits.{maxTerms, queryBytes, aBytes, bBytes, profileBytes}
 use Rattle.sequence.specs.Answers.{Answer, granted, refused}
 use Rattle.sequence.specs.Rules.{openOf, openAnswer, pushAnswer, queryOf}
 use Rattle.sequence.specs.Report.{reportAnswer, profileAnswer}
+use Rattle.sequence.specs.Trace.{recordsOf, traceOf, traceAnswer, sheetFilled}
 use Rattle.candidate.specs.Rules.{verifyAnswer, generateAnswer}
 use Rattle.catalogue.specs.Rules.{recordBytes, recordOf, synthesizeAnswer, lookUpAnswer}
 use Rattle.diverthrone.specs.Codes.{codeOf}
@@ -47,7 +50,7 @@ lookUpCode a b = codeOf (lookUpAnswer nine (nine ++ (bytesOf (3 ∷ []) ++ (aOf 
 abbrev pub counted : ℕ → ℕ → List ℕ → List ℕ
 counted m n ts = bytesOf (m ∷ n ∷ tabulate maxTerms (at ts))
 
--- a sequence that no call made, and what a push, a register and a profile answer to it
+-- a sequence that no call made, and what a push, a register, a profile and a trace answer to it
 abbrev pub forged : ℕ → ℕ → List ℕ → Sequence
 forged m n ts = record { modulus = m; count = n; terms = tabulate maxTerms (at ts) }
 
@@ -57,12 +60,32 @@ registerTo s = reportAnswer s (zeros aBytes) (zeros bBytes)
 abbrev pub profileTo : Sequence → Answer
 profileTo s = profileAnswer s (zeros profileBytes)
 
+-- a trace with a sheet of n records
+abbrev pub traceTo : Sequence → ℕ → Answer
+traceTo s n = traceAnswer s (zeros aBytes) (zeros bBytes) n
+
+-- what stands in a sheet after a trace, and a record of a sheet that was lent
+abbrev pub stored : Sequence → List StepRecord → List StepRecord
+stored s lent = sheetFilled (traceOf s (zeros aBytes) (zeros bBytes) (length lent)) (recordsOf s) lent
+
+abbrev pub step : ℕ → ℕ → ℕ → ℕ → ℕ → ℕ → ℕ → ℕ → StepRecord
+step q k η l u θ g c = record { power = q; k = k; row = η; length = l; u = u; theta = θ; g = g; case = c }
+
+abbrev pub blank : StepRecord
+blank = step 7 7 7 7 7 7 7 7
+
 -- each answer, and each condition of each refusal
 pub record Numbers : Type 0 where
   pub opened : openAnswer 4095 ≡ granted []
   pub pushed : pushAnswer (openOf 9 .sequence) 8 ≡ granted []
   pub reported : registerTo (after 9 (6 ∷ 3 ∷ 1 ∷ 5 ∷ 6 ∷ [])) ≡ granted (3 ∷ [])
   pub profiled : profileTo (after 9 (6 ∷ 3 ∷ 1 ∷ 5 ∷ 6 ∷ [])) ≡ granted []
+  pub traced : traceTo (after 9 (6 ∷ 3 ∷ 1 ∷ 5 ∷ 6 ∷ [])) 10 ≡ granted (3 ∷ [])
+  pub traced-longer : traceTo (after 9 (6 ∷ 3 ∷ 1 ∷ 5 ∷ 6 ∷ [])) 11 ≡ granted (3 ∷ [])
+  pub traced-sheet :
+      stored (after 6 (3 ∷ 3 ∷ [])) (replicate 5 blank)
+      ≡ step 2 0 0 0 0 1 0 2 ∷ step 2 1 0 1 0 1 0 3 ∷ step 3 0 0 0 1 1 1 1 ∷ step 3 1 0 0 1 1 1 1 ∷ blank ∷ []
+  pub traced-short : stored (after 6 (3 ∷ 3 ∷ [])) (replicate 3 blank) ≡ replicate 3 blank
   pub yes : verifyCode (1 ∷ 4 ∷ 7 ∷ 1 ∷ []) (6 ∷ 0 ∷ 1 ∷ []) 3 ≡ 0
   pub no-at-3 : verifyCode (1 ∷ 4 ∷ 7 ∷ 2 ∷ []) (6 ∷ 0 ∷ 1 ∷ []) 3 ≡ 256 * 4
   pub ran : generateCode 9 (1 ∷ []) 256 ≡ 0
@@ -78,6 +101,8 @@ pub record Numbers : Type 0 where
   pub refused-4 : synthesizeCode (counted 5 0 (1 ∷ [])) ≡ 4
   pub refused-5 : synthesizeCode [] ≡ 5
   pub refused-5-odd : generateCode 9 (1 ∷ []) 1 ≡ 5
+  pub refused-5-sheet : traceTo (after 9 (6 ∷ 3 ∷ 1 ∷ 5 ∷ 6 ∷ [])) 9 ≡ refused 5
+  pub refused-5-sheet-primes : traceTo (after 12 (7 ∷ [])) 2 ≡ refused 5
   pub refused-6-long : verifyCode (1 ∷ []) [] 129 ≡ 6
   pub refused-6-a : verifyCode (1 ∷ 4 ∷ 9 ∷ 1 ∷ []) (6 ∷ 0 ∷ 1 ∷ []) 3 ≡ 6
   pub refused-6-b : verifyCode (1 ∷ 4 ∷ 7 ∷ 1 ∷ []) (6 ∷ 9 ∷ 1 ∷ []) 3 ≡ 6
@@ -88,6 +113,7 @@ pub record Numbers : Type 0 where
   pub refused-21-count : pushAnswer (forged 5 129 []) 0 ≡ refused 21
   pub refused-21-term : registerTo (forged 5 1 (5 ∷ [])) ≡ refused 21
   pub refused-21-padding : profileTo (forged 5 0 (1 ∷ [])) ≡ refused 21
+  pub refused-21-traced : traceTo (forged 5 1 (5 ∷ [])) 1 ≡ refused 21
   pub refused-22 : pushAnswer (forged 2 128 []) 0 ≡ refused 22
   pub refused-23 : codeOf (lookUpAnswer nine (0 ∷ []) out) ≡ 23
   pub refused-24-flawed : lookUpCode (2 ∷ 4 ∷ 7 ∷ 1 ∷ []) (6 ∷ 0 ∷ 1 ∷ []) ≡ 24
@@ -98,6 +124,8 @@ pub record Orders : Type 0 where
   pub push-21-22 : pushAnswer (forged 1 128 []) 0 ≡ refused 21
   pub push-22-3 : pushAnswer (forged 2 128 []) 2 ≡ refused 22
   pub report-5-21 : reportAnswer (openOf 1 .sequence) [] [] ≡ refused 5
+  pub trace-5-21 : traceAnswer (openOf 1 .sequence) [] [] 0 ≡ refused 5
+  pub trace-21-5 : traceTo (forged 5 1 (5 ∷ [])) 0 ≡ refused 21
   pub profile-5-21 : profileAnswer (openOf 1 .sequence) [] ≡ refused 5
   pub query-5-1 : codeOf (synthesizeAnswer (queryOf 1 []) []) ≡ 5
   pub query-1-2 : synthesizeCode (counted 1 129 []) ≡ 1

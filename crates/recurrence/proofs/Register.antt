@@ -19,7 +19,7 @@ use Rattle.residue.proofs.Remainders.{Leaves, rests, leaves-at, factored-joined
 use Rattle.recurrence.specs.Polynomial.{Pair, len, Generates}
 use Rattle.recurrence.specs.Steps.{rowAt}
 use Rattle.recurrence.specs.Least.{Least}
-use Rattle.recurrence.specs.Register.{Register, pairOf, Part, part, parts, complexity, coefficient, register}
+use Rattle.recurrence.specs.Register.{Register, pairOf, Part, lengthFrom, registerFrom, part, parts, complexity, coefficient, register}
 use Rattle.recurrence.proofs.Pairs.{Deg, conv-cong}
 use Rattle.recurrence.proofs.Polynomial.{Reduced, len-deg, len-least}
 use Rattle.recurrence.proofs.Steps.{Alike, row-same}
@@ -228,14 +228,8 @@ module _ (m : ℕ) (big : 1 < m) (S T : List ℕ) (n : ℕ) (alike : Alike m S T
 
   pub complexity-same : complexity m S n ≡ complexity m T n
   unfolding complexity
-  complexity-same = ap (λ (ts : List Part). largest (map (λ t. len (t .pair)) ts)) parts-same
+  complexity-same = ap lengthFrom parts-same
 
   pub register-same : register m S n ≡ register m T n
-  unfolding register coefficient complexity
-  register-same = ap made parts-same
-    where
-      made : List Part → Register
-      made ts =
-          let l = largest (map (λ t. len (t .pair)) ts) in
-          let c : (Pair → List ℕ) → ℕ → ℕ = λ side i. joined m (map (λ t. record { modulus = t .modulus; rest = at (side (t .pair)) i }) ts) in
-          record { length = l; a = tabulate (suc l) (c (λ w. w .a)); b = tabulate l (c (λ w. w .b)) }
+  unfolding register
+  register-same = ap (registerFrom m) parts-same

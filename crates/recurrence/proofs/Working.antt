@@ -1,6 +1,6 @@
 -- Laws of the working: applying the cases of a sheet in order gives the register, and a sheet has n records for each row.
 -- Assumes nothing.
-use mathlib.Core.Path.{_≡_, refl, sym, ap, ap₂, _∙_, subst}
+use mathlib.Core.Path.{_≡_, refl, sym, ap, ap₂, _∙_, subst, fun-ext}
 use mathlib.Core.Logic.{_⊎_, inl, inr}
 use mathlib.Core.List.{List, [], _∷_, _++_, map, append-assoc, append-nil}
 use Prim.Native.Nat.{ℕ, zero, suc, _+_, _*_, _-_, _/_, _^_, _≤_, _<_}
@@ -16,14 +16,14 @@ use Rattle.lists.proofs.Search.{lt-or-le}
 use Rattle.residue.specs.Units.{Prime}
 use Rattle.residue.specs.Valuation.{valuation, cofactor}
 use Rattle.residue.specs.Factors.{PrimePower, value, leastPower, primePowers}
-use Rattle.residue.proofs.Congruence.{q-pos}
+use Rattle.residue.proofs.Congruence.{q-pos, cong-left, cong-right}
 use Rattle.residue.proofs.Valuation.{valuation-zero, valuation-parts, cofactor-of}
 use Rattle.residue.proofs.Factors.{Factored, one, more, factored, powers-more, powers-none}
 use Rattle.recurrence.specs.Polynomial.{Pair, len}
 use Rattle.recurrence.specs.Steps.{Rows, row, discrepancy, Case, stays, added, cancelled, caseOf, Older, History, partner, change, older, next, history, rowAt, d-at, u-at, θ-at, L-at, olderAt}
 use Rattle.recurrence.specs.Register.{Part, part, parts, register, registerFrom}
 use Rattle.recurrence.specs.Working.{Step, caseNumber, partnerTold, stepAt, stepsAt, stepsOver, sheetOf, rowsOver, caseNumbered, recalled, applied, retold, recordIn, replayed, replay}
-use Rattle.recurrence.proofs.Steps.{case-stays, case-added, case-cancelled, g-at, steps-before, older-kept, older-grown, entry, next-stays}
+use Rattle.recurrence.proofs.Steps.{case-stays, case-added, case-cancelled, g-at, steps-before, older-kept, older-grown, entry, next-stays, Alike, discrepancy-same, history-same}
 
 -- ---- the length of a sheet
 
@@ -284,3 +284,45 @@ module _ (m : ℕ) (S : List ℕ) (n : ℕ) where
 
   pub replay-register : zero < m → replay m n (sheetOf m S n) ≡ register m S n
   replay-register pos = ap (replay m n) (sym (append-nil (sheetOf m S n))) ∙ replay-behind pos []
+
+-- ---- a sheet of n terms depends on these only, and on them only modulo m
+
+module _ (S T : List ℕ) where
+  step-same : (f : PrimePower) (k η : ℕ) → Alike (value f) S T (suc k) → stepAt S f k η ≡ stepAt T f k η
+  unfolding stepAt rowAt
+  step-same f k η h =
+      ap₂ told (fun-ext (discrepancy-same (value f) S T k h)) (history-same (f .prime) (f .exponent) S T k (λ j l. h j (omega arith)))
+    where
+      told : (Pair → ℕ) → History → Step
+      told δ t =
+          let p = f .prime in
+          let e = f .exponent in
+          let d = δ (row (t .now) η) in
+          let g = partner p e d in
+          let c = caseOf e (valuation e p d) (len (row (t .now) g)) in
+          record {
+            power = value f;
+            k = k;
+            η = η;
+            length = len (row (t .now) η);
+            u = valuation e p d;
+            θ = cofactor e p d;
+            g = partnerTold c e g;
+            case = caseNumber c;
+          }
+
+  stepsAt-same : (f : PrimePower) (n : ℕ) → Alike (value f) S T n → stepsAt S f n ≡ stepsAt T f n
+  unfolding stepsAt
+  stepsAt-same f zero h = refl
+  stepsAt-same f (suc n) h =
+      ap₂ (λ (xs ys : List Step). xs ++ ys) (stepsAt-same f n (λ j l. h j (omega arith))) (tabulate-eq (f .exponent) _ _ (λ η l. step-same f n η h))
+
+  stepsOver-same : (n : ℕ) {r : ℕ} {fs : List PrimePower} → Factored r fs → Alike r S T n → stepsOver S n fs ≡ stepsOver T n fs
+  unfolding stepsOver
+  stepsOver-same n one h = refl
+  stepsOver-same n (more {rest = R} {f = f} {fs = fs} P pos bare some F) h =
+      ap₂ (λ (xs ys : List Step). xs ++ ys) (stepsAt-same f n (λ j l. cong-left (value f) R (h j l))) (stepsOver-same n F (λ j l. cong-right (value f) R (h j l)))
+
+  pub sheet-same : (m n : ℕ) → zero < m → Alike m S T n → sheetOf m S n ≡ sheetOf m T n
+  unfolding sheetOf
+  sheet-same m n pos h = stepsOver-same n (factored m pos) h

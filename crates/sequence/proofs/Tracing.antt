@@ -18,7 +18,7 @@ use Rattle.recurrence.specs.Working.{sheetOf}
 use Rattle.recurrence.proofs.Working.{length-sheet, rows-few, getD-left}
 use Rattle.steps.specs.Sizes.{logWords}
 use Rattle.steps.specs.declared.StepRecord.{StepRecord}
-use Rattle.steps.specs.Log.{recordOf, packed, unpacked, overlaid}
+use Rattle.steps.specs.Log.{stepRecord, packed, unpacked, overlaid}
 use Rattle.steps.proofs.Log.{overlaid-all}
 use Rattle.synthesis.proofs.Logging.{read-sheet}
 use Rattle.sequence.specs.declared.Sequence.{Sequence}
@@ -125,7 +125,7 @@ pub size-most : (s : Sequence) → IsSound s → sheetSize s ≤ logWords
 size-most s h = mul-le-mul (h .count) (rows-few (s .modulus) (omega (arith, h .least)) (omega (arith, h .most)))
 
 words-long : (s : Sequence) → length (wordsOf s) ≡ sheetSize s
-words-long s = length-map (sheetOf (s .modulus) (s .terms) (s .count)) (λ x. packed (recordOf x)) ∙ length-sheet (s .modulus) (s .terms) (s .count)
+words-long s = length-map (sheetOf (s .modulus) (s .terms) (s .count)) (λ x. packed (stepRecord x)) ∙ length-sheet (s .modulus) (s .terms) (s .count)
 
 -- all words of a sound sequence are in the log: unpacked, they are its records
 filled-sound : (s : Sequence) → IsSound s → (lent : List StepRecord) (behind : List ℕ)
@@ -133,7 +133,7 @@ filled-sound : (s : Sequence) → IsSound s → (lent : List StepRecord) (behind
 filled-sound s h lent behind = ap₂ (λ (xs : List StepRecord) (k : ℕ). xs ++ drop k lent) (sym same) (sym long)
   where
     long : length (recordsOf s) ≡ sheetSize s
-    long = length-map (sheetOf (s .modulus) (s .terms) (s .count)) recordOf ∙ length-sheet (s .modulus) (s .terms) (s .count)
+    long = length-map (sheetOf (s .modulus) (s .terms) (s .count)) stepRecord ∙ length-sheet (s .modulus) (s .terms) (s .count)
 
     same : recordsOf s ≡ tabulate (sheetSize s) (entryOf (wordsOf s ++ behind))
     same =

@@ -9,7 +9,7 @@ use Rattle.lists.specs.Choice.{pick}
 use Rattle.residue.specs.Factors.{primePowers}
 use Rattle.recurrence.specs.Working.{sheetOf, rowsOver}
 use Rattle.steps.specs.declared.StepRecord.{StepRecord}
-use Rattle.steps.specs.Log.{recordOf, words}
+use Rattle.steps.specs.Log.{stepRecord, words}
 use Rattle.sequence.specs.declared.Sequence.{Sequence}
 use Rattle.sequence.specs.declared.Refusal.the-variants as R
 use Rattle.sequence.specs.declared.Reported.{Reported}
@@ -22,7 +22,7 @@ use Rattle.sequence.specs.Report.{registerOf}
 
 -- the records of a sequence's sheet, and their number: the count times the sum of the exponents
 abbrev pub recordsOf : Sequence → List StepRecord
-recordsOf s = map recordOf (sheetOf (s .modulus) (s .terms) (s .count))
+recordsOf s = map stepRecord (sheetOf (s .modulus) (s .terms) (s .count))
 
 abbrev pub sheetSize : Sequence → ℕ
 sheetSize s = s .count * rowsOver (primePowers (s .modulus))

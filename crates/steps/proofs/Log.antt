@@ -25,7 +25,7 @@ use Rattle.steps.specs.declared.Ring.{Ring}
 use Rattle.steps.specs.declared.StepRecord.{StepRecord}
 use Rattle.steps.specs.Run.{Setting}
 use Rattle.steps.specs.State.{Lens, Looks}
-use Rattle.steps.specs.Log.{recordOf, packed, unpacked, words, overlaid, Narrow, Noted, powerOf, describedOf}
+use Rattle.steps.specs.Log.{stepRecord, packed, unpacked, words, overlaid, Narrow, Noted, powerOf, describedOf}
 
 -- records are equal by their fields
 same-record : {a a′ b b′ c c′ d d′ e e′ f f′ g g′ h h′ : ℕ} → a ≡ a′ → b ≡ b′ → c ≡ c′ → d ≡ d′ → e ≡ e′ → f ≡ f′ → g ≡ g′ → h ≡ h′
@@ -194,7 +194,7 @@ module _ (ring : Ring) (S : List ℕ) (st : Setting ring S) (k : ℕ) (len us ts
   pub us-low : (i : ℕ) → i < ring .e → at us i ≤ ring .e
   us-low i h = omega (arith, lk .powers i h, valuation-le (ring .e) (ring .p) (d-at (ring .p) (ring .e) S i k))
 
-  pub described-is : (i : ℕ) → i < ring .e → describedOf ring len us ts k i ≡ recordOf (stepAt S (powerOf ring) k i)
+  pub described-is : (i : ℕ) → i < ring .e → describedOf ring len us ts k i ≡ stepRecord (stepAt S (powerOf ring) k i)
   unfolding stepAt partner describedOf
   described-is i h =
       same-record (st .whole) refl refl (ll .sizes i h) u-is (lk .rests i h) (ap₂ (λ (c : Case) (x : ℕ). partnerTold c (ring .e) x) case-is g-is) (ap caseNumber case-is)
@@ -210,32 +210,32 @@ module _ (ring : Ring) (S : List ℕ) (st : Setting ring S) (k : ℕ) (len us ts
 
   -- so are the words noted in a step
   pub noted-described : (first : ℕ) (log log′ : List ℕ) → Noted first (ring .e) (λ i. packed (describedOf ring len us ts k i)) log log′
-      → Noted first (ring .e) (λ i. packed (recordOf (stepAt S (powerOf ring) k i))) log log′
+      → Noted first (ring .e) (λ i. packed (stepRecord (stepAt S (powerOf ring) k i))) log log′
   noted-described first log log′ t =
       record { long = t .long; new = λ i l h. t .new i l h ∙ ap packed (described-is i l); before = t .before; behind = t .behind }
 
 -- ---- the records of n steps
 
 abbrev pub wordAt : Ring → List ℕ → ℕ → ℕ → ℕ
-wordAt ring S n i = packed (recordOf (getD (stepsAt S (powerOf ring) n) i noStep))
+wordAt ring S n i = packed (stepRecord (getD (stepsAt S (powerOf ring) n) i noStep))
 
 -- those of one step more
 pub noted-step : (ring : Ring) (S : List ℕ) (n k first place : ℕ) (x y z : List ℕ) → k < n → place ≡ first + k * ring .e
-    → Noted first (k * ring .e) (wordAt ring S n) x y → Noted place (ring .e) (λ i. packed (recordOf (stepAt S (powerOf ring) k i))) y z
+    → Noted first (k * ring .e) (wordAt ring S n) x y → Noted place (ring .e) (λ i. packed (stepRecord (stepAt S (powerOf ring) k i))) y z
     → Noted first ((k + 1) * ring .e) (wordAt ring S n) x z
 noted-step ring S n k first place x y z l at-place a b =
-    noted-more first (k * ring .e) (ring .e) (wordAt ring S n) (λ i. packed (recordOf (stepAt S (powerOf ring) k i))) (wordAt ring S n) place ((k + 1) * ring .e) at-place
-    (omega arith) (λ i h. refl) (λ i h. ap (λ s. packed (recordOf s)) (sym (stepsAt-at S (powerOf ring) n k i noStep l h))) a b
+    noted-more first (k * ring .e) (ring .e) (wordAt ring S n) (λ i. packed (stepRecord (stepAt S (powerOf ring) k i))) (wordAt ring S n) place ((k + 1) * ring .e) at-place
+    (omega arith) (λ i h. refl) (λ i h. ap (λ s. packed (stepRecord s)) (sym (stepsAt-at S (powerOf ring) n k i noStep l h))) a b
 
 -- ---- a sheet's words can be read back
 
 abbrev pub Read : List Step → Type 0
-Read sheet = map unpacked (words sheet) ≡ map recordOf sheet
+Read sheet = map unpacked (words sheet) ≡ map stepRecord sheet
 
 pub read-append : (xs ys : List Step) → Read xs → Read ys → Read (xs ++ ys)
 read-append xs ys hx hy =
-    ap (map unpacked) (map-append (λ x. packed (recordOf x)) xs ys) ∙ map-append unpacked (words xs) (words ys)
-    ∙ ap₂ (λ (a b : List StepRecord). a ++ b) hx hy ∙ sym (map-append recordOf xs ys)
+    ap (map unpacked) (map-append (λ x. packed (stepRecord x)) xs ys) ∙ map-append unpacked (words xs) (words ys)
+    ∙ ap₂ (λ (a b : List StepRecord). a ++ b) hx hy ∙ sym (map-append stepRecord xs ys)
 
 module _ (S : List ℕ) (f : PrimePower) (P : Prime (f .prime)) (pos : zero < f .exponent) (few : f .exponent ≤ maxRows) (small : value f < 65536) where
   abbrev p : ℕ
@@ -248,7 +248,7 @@ module _ (S : List ℕ) (f : PrimePower) (P : Prime (f .prime)) (pos : zero < f 
   θ-low k η =
       omega (arith, cofactor-le e p (d-at p e S η k) (p ^ e - 1) (omega (arith, pow-lt p e (P .big) pos, pow-zero p)) (omega (arith, d-lt p e P pos S η k)), q-pos p e (P .big))
 
-  narrow-step : (k η : ℕ) → k < maxTerms → η < e → Narrow (recordOf (stepAt S f k η))
+  narrow-step : (k η : ℕ) → k < maxTerms → η < e → Narrow (stepRecord (stepAt S f k η))
   unfolding stepAt partner
   narrow-step k η early inside =
       record {
@@ -262,11 +262,11 @@ module _ (S : List ℕ) (f : PrimePower) (P : Prime (f .prime)) (pos : zero < f 
         case = number-low (caseOf e (u-at p e S η k) (L-at p e S (g-at p e S η k) k));
       }
 
-  read-row : (k : ℕ) (g : ℕ → Step) → ((η : ℕ) → η < k → Narrow (recordOf (g η))) → Read (tabulate k g)
+  read-row : (k : ℕ) (g : ℕ → Step) → ((η : ℕ) → η < k → Narrow (stepRecord (g η))) → Read (tabulate k g)
   unfolding tabulate
   read-row zero g narrow = refl
   read-row (suc k) g narrow =
-      ap₂ (λ (x : StepRecord) (xs : List StepRecord). x ∷ xs) (unpacked-packed (recordOf (g zero)) (narrow zero (omega arith)))
+      ap₂ (λ (x : StepRecord) (xs : List StepRecord). x ∷ xs) (unpacked-packed (stepRecord (g zero)) (narrow zero (omega arith)))
       (read-row k (λ η. g (suc η)) (λ η l. narrow (suc η) (omega arith)))
 
   pub read-steps : (n : ℕ) → n ≤ maxTerms → Read (stepsAt S f n)

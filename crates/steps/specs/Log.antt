@@ -12,8 +12,8 @@ use Rattle.steps.specs.declared.Ring.{Ring}
 use Rattle.steps.specs.declared.StepRecord.{StepRecord}
 
 -- the code's record of a step, and the step of a record
-abbrev pub recordOf : Step → StepRecord
-recordOf x = record { power = x .power; k = x .k; row = x .η; length = x .length; u = x .u; theta = x .θ; g = x .g; case = x .case }
+abbrev pub stepRecord : Step → StepRecord
+stepRecord x = record { power = x .power; k = x .k; row = x .η; length = x .length; u = x .u; theta = x .θ; g = x .g; case = x .case }
 
 abbrev pub stepOf : StepRecord → Step
 stepOf x = record { power = x .power; k = x .k; η = x .row; length = x .length; u = x .u; θ = x .theta; g = x .g; case = x .case }
@@ -36,7 +36,7 @@ unpacked w =
 
 -- the words of a sheet
 abbrev pub words : List Step → List ℕ
-words sheet = map (λ x. packed (recordOf x)) sheet
+words sheet = map (λ x. packed (stepRecord x)) sheet
 
 -- a log with these words written over its beginning, as far as it has places
 unfoldable pub overlaid : List ℕ → List ℕ → List ℕ

@@ -11,7 +11,7 @@ ghost use Rattle.residue.specs.Reduction.{scaleOf};
 ghost use Rattle.recurrence.specs.Polynomial.{conv};
 ghost use Rattle.recurrence.specs.Working.{noStep, stepAt, stepsAt};
 ghost use Rattle.steps.specs.Sizes.{maxTerms, maxCells, maxRows, logWords};
-ghost use Rattle.steps.specs.Log.{recordOf, packed, unpacked, Narrow, Noted, powerOf, describedOf};
+ghost use Rattle.steps.specs.Log.{stepRecord, packed, unpacked, Narrow, Noted, powerOf, describedOf};
 ghost use Rattle.steps.specs.Run.{Below, Setting, Result};
 ghost use Rattle.steps.specs.Passes.{Clear, Added, Shape, Blank, Starting, nextAt, Planned, Stocked, Changed, Changing, Grows, Settling};
 ghost use Rattle.steps.specs.State.{Rows, Lens, Looks, State, Spare};
@@ -427,7 +427,7 @@ fn step(
     ensures { λ _. ⌜ State ring (now (s .entry)) (suc k) (now (cur .exit)) (now (old .exit)) (now (len .exit)) (now (when .exit))
         (now (reach .exit)) (now (mult .exit))
         × Spare (now (next .exit)) (now (saved .exit)) (now (us .exit)) (now (ts .exit))
-        × Noted place (ring .e) (λ (i : ℕ). packed (recordOf (stepAt (now (s .entry)) (powerOf ring) k i))) (now (log .entry)) (now (log .exit)) ⌝ }
+        × Noted place (ring .e) (λ (i : ℕ). packed (stepRecord (stepAt (now (s .entry)) (powerOf ring) k i))) (now (log .entry)) (now (log .exit)) ⌝ }
 {
     look(cur, len, s, k, ring, us, ts);
     note(len, us, ts, k, ring, log, place);
@@ -475,7 +475,7 @@ pub fn run(
 )
     requires { ⌜ Setting ring (now s) × (n ≤ maxTerms) × (first + n * ring .e ≤ logWords) ⌝ }
     ensures { λ _. ⌜ Result ring (now (s .entry)) n (now (a .exit)) (now (lens .exit))
-        × Noted first (n * ring .e) (λ (i : ℕ). packed (recordOf (getD (stepsAt (now (s .entry)) (powerOf ring) n) i noStep)))
+        × Noted first (n * ring .e) (λ (i : ℕ). packed (stepRecord (getD (stepsAt (now (s .entry)) (powerOf ring) n) i noStep)))
         (now (log .entry)) (now (log .exit)) ⌝ }
 {
     let mut cur = [[0u32; CELLS]; ROWS];

@@ -16,7 +16,7 @@ use Rattle.recurrence.specs.Working.{Step, noStep, stepsAt, stepsOver, sheetOf,
 use Rattle.recurrence.proofs.Working.{length-stepsAt, length-sheet, rows-low, rows-few, rows-more, rows-none, steps-more, getD-left}
 use Rattle.steps.specs.Sizes.{maxTerms, maxRows, logWords}
 use Rattle.steps.specs.declared.Ring.{Ring}
-use Rattle.steps.specs.Log.{recordOf, packed, words, overlaid, Noted, powerOf}
+use Rattle.steps.specs.Log.{stepRecord, packed, words, overlaid, Noted, powerOf}
 use Rattle.steps.proofs.Log.{noted-none, noted-more, wordAt, overlaid-is, Read, read-append, read-steps}
 use Rattle.synthesis.proofs.Gathering.{ringOf}
 
@@ -46,7 +46,7 @@ module _ {m sum R : ℕ} (c : Counting m sum R) where
 -- ---- the words
 
 abbrev pub sheetWord : ℕ → List ℕ → ℕ → ℕ → ℕ
-sheetWord m S n i = packed (recordOf (getD (sheetOf m S n) i noStep))
+sheetWord m S n i = packed (stepRecord (getD (sheetOf m S n) i noStep))
 
 -- the log has the words of the first prime powers, `base` of them, and the sheet goes on with the records of R
 pub record Logging (m : ℕ) (S : List ℕ) (n base R : ℕ) (log₀ log : List ℕ) : Type 0 where
@@ -78,7 +78,7 @@ module _ {m : ℕ} {S : List ℕ} {n base R : ℕ} {log₀ log : List ℕ} (g : 
 
     next-word : (i : ℕ) → i < n * f .exponent → wordAt (ringOf f) S n i ≡ sheetWord m S n (base + i)
     next-word i h =
-        ap (λ x. packed (recordOf x)) (sym (getD-left (stepsAt S f n) (stepsOver S n (primePowers R′)) i noStep (omega (arith, length-stepsAt S f n)))
+        ap (λ x. packed (stepRecord x)) (sym (getD-left (stepsAt S f n) (stepsOver S n (primePowers R′)) i noStep (omega (arith, length-stepsAt S f n)))
         ∙ ap (λ (xs : List Step). getD xs i noStep) (sym next-left) ∙ getD-drop base (sheetOf m S n) i noStep)
 
     next-rest : drop (base + n * f .exponent) (sheetOf m S n) ≡ stepsOver S n (primePowers R′)
@@ -105,12 +105,12 @@ module _ {m : ℕ} {S : List ℕ} {n base R : ℕ} {log₀ log : List ℕ} (g : 
       (λ i a b. ap (at log) (let z : i ≡ zero + i = omega arith in z) ∙ g .noted .new i (omega (arith, all, long)) (omega (arith, b)) ∙ sym (word-at (sheetOf m S n) i (omega (arith, long)))) (λ i a. g .noted .behind i (omega (arith, all, long)))
     where
       long : length (words (sheetOf m S n)) ≡ length (sheetOf m S n)
-      long = length-map (sheetOf m S n) (λ x. packed (recordOf x))
+      long = length-map (sheetOf m S n) (λ x. packed (stepRecord x))
 
       all : base ≡ length (sheetOf m S n)
       all = omega (arith, g .whole, ap (λ (x : ℕ). n * x) (rows-none R h), length-sheet m S n)
 
-      word-at : (xs : List Step) (i : ℕ) → i < length xs → at (words xs) i ≡ packed (recordOf (getD xs i noStep))
+      word-at : (xs : List Step) (i : ℕ) → i < length xs → at (words xs) i ≡ packed (stepRecord (getD xs i noStep))
       word-at [] i l = absurd (omega arith)
       word-at (x ∷ xs) zero l = refl
       word-at (x ∷ xs) (suc i) l = word-at xs i (omega arith)

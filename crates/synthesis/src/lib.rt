@@ -11,7 +11,7 @@ ghost use Rattle.residue.specs.Factors.{divisorsEnd, primePowers};
 ghost use Rattle.recurrence.specs.Register.{register};
 ghost use Rattle.recurrence.specs.Working.{noStep, stepsAt, sheetOf, rowsOver};
 ghost use Rattle.steps.specs.Sizes.{maxTerms, maxCells, maxRows, logWords};
-ghost use Rattle.steps.specs.Log.{recordOf, packed, words, overlaid, powerOf, Noted};
+ghost use Rattle.steps.specs.Log.{stepRecord, packed, words, overlaid, powerOf, Noted};
 ghost use Rattle.steps.specs.Run.{Below, Setting};
 ghost use Rattle.synthesis.specs.Joining.{Glued, Raised, Extended, Starts};
 ghost use Rattle.synthesis.specs.Synthesis.{lengthAt, synthesisOf};
@@ -76,7 +76,7 @@ fn extend(
         × (length (now a) ≡ maxCells) × Below maxCells big (now a) × (length (now lengths) ≡ maxCells) × (first + count * ring .e ≤ logWords) ⌝ }
     ensures { λ _. ⌜ Extended ring (now (terms .entry)) count big (now (a .entry)) (now (lengths .entry)) (now (a .exit))
         (now (lengths .exit))
-        × Noted first (count * ring .e) (λ (i : ℕ). packed (recordOf (getD (stepsAt (now (terms .entry)) (powerOf ring) count) i noStep)))
+        × Noted first (count * ring .e) (λ (i : ℕ). packed (stepRecord (getD (stepsAt (now (terms .entry)) (powerOf ring) count) i noStep)))
         (now (log .entry)) (now (log .exit)) ⌝ }
 {
     let mut row = [0u32; CELLS];
