@@ -60,7 +60,7 @@ extend-requires c κs =
       g .long-a,
       g .below,
       g .long-lengths,
-      logging-fits (l .inv .1) (f .exponent) big (s .1) (z .pre .2) (omega (arith, z .pre .1)),
+      omega (arith, logging-fits (l .inv .1) (f .exponent) big (s .1) (z .pre .2) (omega (arith, z .pre .1))),
     )
 
 mul-big : tie.Need-mul-big Inv-loop μ-loop
