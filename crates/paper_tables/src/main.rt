@@ -4,39 +4,30 @@
 // quintuples with spaces. One place differs: at k = 0 Table 2 has the f of the longer version of the steps, which is not the one proved,
 // and a star stands for it.
 use catalogue::RECORD_BYTES;
-use libc::STDOUT_FILENO;
+use sequence::A_BYTES;
+use sequence::B_BYTES;
 use sequence::Outcome;
 use sequence::QUERY_BYTES;
+use sequence::Sequence;
 use steps::CELLS;
+use steps::LOG;
 use steps::ROWS;
 use steps::Ring;
+use steps::StepRecord;
 use steps::TERMS;
 ghost use Prim.Native.Nat.{_≤_, _<_};
 ghost use lib.ListN.{length};
-ghost use Rattle.steps.specs.Sizes.{maxTerms, maxCells, maxRows};
+ghost use Rattle.steps.specs.Sizes.{maxTerms, maxCells};
 ghost use Rattle.steps.specs.Run.{Below, Setting};
 
 // The number of terms.
 const COUNT: usize = 5;
 
-fn text(s: &[u8]) {
-    io::write_all(STDOUT_FILENO, s);
-}
-
-fn number(n: usize) {
-    io::print_decimal(STDOUT_FILENO, n as u64);
-}
-
-fn value(n: u32) {
-    number(n as usize);
-}
-
 // k and eta, which stand before each line.
-fn place(k: usize, eta: usize) {
-    number(k);
-    text(b" ");
-    number(eta);
-    text(b" ");
+fn place(k: u64, eta: u64) {
+    printing::number(k);
+    printing::field(eta);
+    printing::text(b" ");
 }
 
 // How many coefficients are printed: all up to the last that is not 0, and at least one.
@@ -53,6 +44,11 @@ fn shown(x: &[u32]) -> usize
     n
 }
 
+// A coefficient; it is a parameter, since a parameter is known to fit its type.
+fn value(n: u32) {
+    printing::number(n as u64);
+}
+
 // Coefficients, with commas between.
 fn polynomial(x: &[u32])
     requires { ⌜ 0 < length (now x) ⌝ }
@@ -61,7 +57,7 @@ fn polynomial(x: &[u32])
     value(x[0]);
     let mut i: usize = 1;
     while i < n {
-        text(b",");
+        printing::text(b",");
         value(x[i]);
         i += 1;
     }
@@ -71,12 +67,12 @@ fn polynomial(x: &[u32])
 fn pair(k: usize, eta: usize, s: &[u32; TERMS], a: &[u32; CELLS], l: usize, q: u32)
     requires { ⌜ (l ≤ maxTerms) × (0 < q) × Below maxCells 65536 (now a) × Below maxTerms 65536 (now s) ⌝ }
 {
-    place(k, eta);
+    place(k as u64, eta as u64);
     polynomial(a);
-    text(b" ");
+    printing::text(b" ");
     let b = synthesis::start_cells(a, s, l, q);
     polynomial(&b);
-    text(b"\n");
+    printing::text(b"\n");
 }
 
 fn pairs(k: usize, s: &[u32; TERMS], ring: Ring)
@@ -84,74 +80,10 @@ fn pairs(k: usize, s: &[u32; TERMS], ring: Ring)
 {
     let mut cur = [[0u32; CELLS]; ROWS];
     let mut len = [0usize; ROWS];
-    let mut us = [0usize; ROWS];
-    let mut ts = [0u32; ROWS];
-    steps::rows(s, k, ring, &mut cur, &mut len, &mut us, &mut ts);
+    steps::rows(s, k, ring, &mut cur, &mut len);
     let mut i: usize = 0;
     while i < ring.e {
         pair(k, i, s, &cur[i], len[i], ring.q);
-        i += 1;
-    }
-}
-
-// f and the case.
-fn case(len: &[usize; ROWS], u: usize, e: usize)
-    requires { ⌜ e ≤ maxRows ⌝ }
-{
-    if e <= u {
-        text(b"* I");
-        return;
-    }
-    let f = e - 1 - u;
-    number(f);
-    if len[f] == 0 {
-        text(b" IIa");
-        return;
-    }
-    text(b" IIb");
-}
-
-// What step k sees of a row, and what it does to it. There is no step after the last term.
-fn seen(k: usize, len: &[usize; ROWS], u: usize, t: u32, e: usize)
-    requires { ⌜ e ≤ maxRows ⌝ }
-{
-    if k == COUNT {
-        text(b"* * * *");
-        return;
-    }
-    number(u);
-    text(b" ");
-    value(t);
-    text(b" ");
-    if k == 0 {
-        text(b"* *");
-        return;
-    }
-    case(len, u, e);
-}
-
-// A line of Table 2: l, u, theta, f and the case of row eta at step k.
-fn quintuple(k: usize, eta: usize, len: &[usize; ROWS], u: usize, t: u32, e: usize)
-    requires { ⌜ (eta < e) × (e ≤ maxRows) ⌝ }
-{
-    place(k, eta);
-    number(len[eta]);
-    text(b" ");
-    seen(k, len, u, t, e);
-    text(b"\n");
-}
-
-fn quintuples(k: usize, s: &[u32; TERMS], ring: Ring)
-    requires { ⌜ Setting ring (now s) × (k < maxTerms) ⌝ }
-{
-    let mut cur = [[0u32; CELLS]; ROWS];
-    let mut len = [0usize; ROWS];
-    let mut us = [0usize; ROWS];
-    let mut ts = [0u32; ROWS];
-    steps::rows(s, k, ring, &mut cur, &mut len, &mut us, &mut ts);
-    let mut i: usize = 0;
-    while i < ring.e {
-        quintuple(k, i, &len, us[i], ts[i], ring.e);
         i += 1;
     }
 }
@@ -160,7 +92,7 @@ fn quintuples(k: usize, s: &[u32; TERMS], ring: Ring)
 fn table_1(s: &[u32; TERMS], ring: Ring)
     requires { ⌜ Setting ring (now s) ⌝ }
 {
-    text(b"Table 1\nk eta a b\n");
+    printing::text(b"Table 1\nk eta a b\n");
     let mut k: usize = 0;
     while k <= COUNT {
         pairs(k, s, ring);
@@ -168,32 +100,93 @@ fn table_1(s: &[u32; TERMS], ring: Ring)
     }
 }
 
-// Table 2: the quintuples, at the same steps.
+// f, which is the record's g, and the case. At k = 0 the table has no case.
+fn case(r: StepRecord) {
+    if r.k == 0 {
+        printing::text(b" * *");
+        return;
+    }
+    if r.case == 1 {
+        printing::text(b" * I");
+        return;
+    }
+    printing::field(r.g as u64);
+    if r.case == 2 {
+        printing::text(b" IIa");
+        return;
+    }
+    printing::text(b" IIb");
+}
+
+// A line of Table 2: l, u, theta, f and the case of row eta at step k.
+fn quintuple(r: StepRecord) {
+    place(r.k as u64, r.row as u64);
+    printing::number(r.length as u64);
+    printing::field(r.u as u64);
+    printing::field(r.theta as u64);
+    case(r);
+    printing::text(b"\n");
+}
+
+// The lines of all steps, from the sheet of the sequence.
+fn quintuples(s: Sequence) {
+    let mut a = [0u8; A_BYTES];
+    let mut b = [0u8; B_BYTES];
+    let mut log = [0u64; LOG];
+    let w = sequence::work(s, &mut a, &mut b, LOG, &mut log);
+    let mut i: usize = 0;
+    while i < w.count {
+        quintuple(steps::entry(&log, i));
+        i += 1;
+    }
+}
+
+// The line of row eta after the last term: its length.
+fn ended(eta: usize, l: usize) {
+    place(COUNT as u64, eta as u64);
+    printing::number(l as u64);
+    printing::text(b" * * * *\n");
+}
+
+// The lengths after the last term. There is no step that sees them, so that they stand in no record.
+fn lengths(s: &[u32; TERMS], ring: Ring)
+    requires { ⌜ Setting ring (now s) ⌝ }
+{
+    let mut cur = [[0u32; CELLS]; ROWS];
+    let mut len = [0usize; ROWS];
+    steps::rows(s, COUNT, ring, &mut cur, &mut len);
+    let mut i: usize = 0;
+    while i < ring.e {
+        ended(i, len[i]);
+        i += 1;
+    }
+}
+
+// Table 2: the quintuples at each step, and the lengths after the last.
 fn table_2(s: &[u32; TERMS], ring: Ring)
     requires { ⌜ Setting ring (now s) ⌝ }
 {
-    text(b"Table 2\nk eta l u theta f case\n");
-    let mut k: usize = 0;
-    while k <= COUNT {
-        quintuples(k, s, ring);
-        k += 1;
-    }
+    printing::text(b"Table 2\nk eta l u theta f case\n");
+    let terms = *s;
+    quintuples(Sequence {
+        modulus: ring.q,
+        count: COUNT as u32,
+        terms: terms,
+    });
+    lengths(s, ring);
 }
 
 // What a call answered.
 fn told(o: Outcome) {
     match o {
-        Outcome::Done => text(b"done"),
-        Outcome::Refused(r) => {
-            text(b"refused ");
-            io::print_decimal(STDOUT_FILENO, sequence::number(r));
-        }
+        Outcome::Done => printing::text(b"done"),
+        Outcome::Refused(r) => printing::refused(r),
     }
 }
 
 fn stopped(taken: usize, o: Outcome) {
-    number(taken);
-    text(b" terms taken, then ");
+    printing::number(taken as u64);
+    printing::text(b" terms taken, then ");
     told(o);
 }
 
@@ -230,11 +223,11 @@ fn overfull() {
 
 // Case 15: 128 terms are taken, the 129th gets 22; a query with count 129 gets 2.
 fn case_15() {
-    text(b"case 15: ");
+    printing::text(b"case 15: ");
     fill();
-    text(b"; count 129 ");
+    printing::text(b"; count 129 ");
     overfull();
-    text(b"\n");
+    printing::text(b"\n");
 }
 
 fn main() {

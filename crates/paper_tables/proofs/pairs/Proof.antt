@@ -33,7 +33,7 @@ array-read-pair c = search needs
 
 pair-requires : tie.Need-pair-requires Inv-loop μ-loop
 pair-requires c κs =
-    let z = c .before .before .before .before .before .before .before .before .before in
+    let z = c .before .before .before .before .before .before .before in
     let a = z .args in
     let st = z .pre .0 in
     let i = c .before .before .before .loop .i in

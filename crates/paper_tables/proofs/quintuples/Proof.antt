@@ -1,33 +1,32 @@
--- `paper_tables::quintuples` meets its contract: each row is below e, and e is at most 15.
+-- `paper_tables::quintuples` meets its contract: all records that `work` tells of are in the log.
 -- Assumes nothing.
-use Prim.Native.Nat.{_-_}
+use Prim.Native.Nat.{_≤_, _-_}
 use borrow.Author.Needs.{needs}
+use Rattle.steps.specs.Sizes.{logWords}
+use Rattle.sequence.proofs.Tracing.{count-fits}
 use Rattle.paper_tables.proofs.quintuples.Statement.{statement}
 use Rattle.paper_tables.proofs.quintuples.Tie as tie
 
 abbrev Inv-loop : tie.InvT-loop
-Inv-loop k s ring len us ts i₀ i = Unit {0}
+Inv-loop log w i₀ i = w .count ≤ logWords
 
 abbrev μ-loop : tie.MeasureT-loop
-μ-loop k s ring len us ts i₀ i = ring .e - i
+μ-loop log w i₀ i = w .count - i
 
-rows-requires : tie.Need-rows-requires Inv-loop μ-loop
-rows-requires c κs = search needs
+slice-aggregate-work : tie.Need-slice-aggregate-work Inv-loop μ-loop
+slice-aggregate-work c = search needs
+
+slice-aggregate-work-2 : tie.Need-slice-aggregate-work-2 Inv-loop μ-loop
+slice-aggregate-work-2 c = search needs
+
+work-requires : tie.Need-work-requires Inv-loop μ-loop
+work-requires c κs = search needs
 
 loop-holds : tie.Need-loop-holds Inv-loop μ-loop
-loop-holds c = search needs
+loop-holds c = count-fits _ _ _ _ _ (c .before .before .work .ensures .0) .1
 
-mul-quintuple : tie.Need-mul-quintuple Inv-loop μ-loop
-mul-quintuple c = search needs
-
-array-read-quintuple : tie.Need-array-read-quintuple Inv-loop μ-loop
-array-read-quintuple c = search needs
-
-mul-quintuple-2 : tie.Need-mul-quintuple-2 Inv-loop μ-loop
-mul-quintuple-2 c = search needs
-
-array-read-quintuple-2 : tie.Need-array-read-quintuple-2 Inv-loop μ-loop
-array-read-quintuple-2 c = search needs
+entry-requires : tie.Need-entry-requires Inv-loop μ-loop
+entry-requires c κs = search needs
 
 quintuple-requires : tie.Need-quintuple-requires Inv-loop μ-loop
 quintuple-requires c κs = search needs
@@ -50,12 +49,11 @@ quintuples-spec =
     (tie.spec
     Inv-loop
     μ-loop
-    rows-requires
+    slice-aggregate-work
+    slice-aggregate-work-2
+    work-requires
     loop-holds
-    mul-quintuple
-    array-read-quintuple
-    mul-quintuple-2
-    array-read-quintuple-2
+    entry-requires
     quintuple-requires
     add-i
     loop-less

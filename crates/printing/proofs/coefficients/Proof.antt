@@ -1,19 +1,22 @@
--- `listing::coefficients` meets its contract: each cell is in the record, and the loop ends at 129 places.
+-- `printing::coefficients` meets its contract: the loop ends at the latest after the 129 cells of a.
 -- Assumes nothing.
 use Prim.Native.Nat.{_-_}
 use borrow.Author.Needs.{needs}
-use Rattle.listing.proofs.coefficients.Statement.{statement}
-use Rattle.listing.proofs.coefficients.Tie as tie
+use Rattle.printing.proofs.coefficients.Statement.{statement}
+use Rattle.printing.proofs.coefficients.Tie as tie
 use Rattle.sequence.specs.Limits.{maxCells}
 
 abbrev Inv-loop : tie.InvT-loop
-Inv-loop entry l i₀ i = Unit {0}
+Inv-loop a d i₀ i = Unit {0}
 
 abbrev μ-loop : tie.MeasureT-loop
-μ-loop entry l i₀ i = maxCells - i
+μ-loop a d i₀ i = maxCells - i
 
 cell-requires : tie.Need-cell-requires Inv-loop μ-loop
 cell-requires c κs = search needs
+
+cast-number : tie.Need-cast-number Inv-loop μ-loop
+cast-number c = search needs
 
 number-requires : tie.Need-number-requires Inv-loop μ-loop
 number-requires c κs = search needs
@@ -46,6 +49,7 @@ coefficients-spec =
     Inv-loop
     μ-loop
     cell-requires
+    cast-number
     number-requires
     loop-holds
     returns

@@ -1,0 +1,83 @@
+// The working: queries on standard input. For each the listing's line, then the records of its steps as a table; or its refusal alone.
+use libc::STDIN_FILENO;
+use sequence::A_BYTES;
+use sequence::B_BYTES;
+use sequence::Outcome;
+use sequence::QUERY_BYTES;
+use sequence::Reported;
+use sequence::Sequence;
+use steps::LOG;
+use steps::StepRecord;
+ghost use Prim.Native.Nat.{_≤_};
+ghost use Rattle.steps.specs.Sizes.{logWords};
+
+fn row(r: StepRecord) {
+    printing::number(r.power as u64);
+    printing::field(r.k as u64);
+    printing::field(r.row as u64);
+    printing::field(r.length as u64);
+    printing::field(r.u as u64);
+    printing::field(r.theta as u64);
+    printing::field(r.g as u64);
+    printing::field(r.case as u64);
+    printing::text(b"\n");
+}
+
+// The first records of a log.
+fn table(log: &[u64; LOG], count: usize)
+    requires { ⌜ count ≤ logWords ⌝ }
+{
+    printing::text(b"power k row length u theta g case\n");
+    let mut i: usize = 0;
+    while i < count {
+        row(steps::entry(log, i));
+        i += 1;
+    }
+}
+
+// The register and the working. The log has room for every sheet, so that nothing is refused here that `check` passes.
+fn show(s: Sequence) {
+    let mut a = [0u8; A_BYTES];
+    let mut b = [0u8; B_BYTES];
+    let mut log = [0u64; LOG];
+    let w = sequence::work(s, &mut a, &mut b, LOG, &mut log);
+    let reply = w.reply;
+    match reply {
+        Reported::Refused(r) => printing::refusal_line(r),
+        Reported::Length(l) => {
+            printing::register_line(s.modulus, s.count, l, &a);
+            table(&log, w.count);
+        }
+    }
+}
+
+fn one(query: &[u8]) {
+    let c = sequence::check(query);
+    let o = c.outcome;
+    match o {
+        Outcome::Refused(r) => printing::refusal_line(r),
+        Outcome::Done => {
+            let s = c.sequence;
+            show(s);
+        }
+    }
+}
+
+// Reads one query; says whether to go on.
+fn next() -> bool {
+    let mut query = [0u8; QUERY_BYTES];
+    let n = io::read_full(STDIN_FILENO, &mut query);
+    if n == 0 {
+        return false;
+    }
+    one(&query[..n]);
+    true
+}
+
+fn main() {
+    printing::header_line();
+    let mut turns = u64::MAX;
+    while turns > 0 && next() {
+        turns = turns - 1;
+    }
+}
