@@ -9,7 +9,11 @@ use sequence::QUERY_BYTES;
 use sequence::Refusal;
 use sequence::Reported;
 use sequence::Sequence;
+use steps::LOG;
+use steps::StepRecord;
 use steps::TERMS;
+ghost use Prim.Native.Nat.{_≤_};
+ghost use Rattle.steps.specs.Sizes.{logWords};
 
 // Where an FNV-1a hash of 32 bits starts.
 const START: u32 = 2166136261;
@@ -77,6 +81,16 @@ fn outcome(o: Outcome) {
     }
 }
 
+fn reported(r: Reported) {
+    match r {
+        Reported::Length(l) => {
+            text(b"length ");
+            decimal(l as u64);
+        }
+        Reported::Refused(r) => refused(r),
+    }
+}
+
 // x times the factor of FNV, in 32 bits. The product is taken in 64, so that nothing wraps.
 fn scaled(x: u32) -> u32 {
     ((x as u64) * 16777619 % 4294967296) as u32
@@ -91,6 +105,24 @@ fn mixed(h: u32, byte: u8) -> u32 {
 fn mixed_cell(h: u32, v: u32) -> u32 {
     let low = mixed(h, (v % 256) as u8);
     mixed(low, (v / 256 % 256) as u8)
+}
+
+// A number's four bytes more.
+fn mixed_number(h: u32, v: u32) -> u32 {
+    let low = mixed_cell(h, v % 65536);
+    mixed_cell(low, v / 65536)
+}
+
+fn mixed_pair(h: u32, v: u32, w: u32) -> u32 {
+    mixed_number(mixed_number(h, v), w)
+}
+
+// A record's eight numbers more.
+fn mixed_record(h: u32, x: StepRecord) -> u32 {
+    let place = mixed_pair(h, x.power, x.k);
+    let row = mixed_pair(place, x.row, x.length);
+    let discrepancy = mixed_pair(row, x.u, x.theta);
+    mixed_pair(discrepancy, x.g, x.case)
 }
 
 fn hash(s: &[u8]) -> u32 {
@@ -110,6 +142,19 @@ fn hash_sequence(s: Sequence) -> u32 {
     let mut i: usize = 0;
     while i < TERMS {
         h = mixed_cell(h, terms[i]);
+        i += 1;
+    }
+    h
+}
+
+// The hash of the first records of a log.
+fn hash_log(log: &[u64; LOG], count: usize) -> u32
+    requires { ⌜ count ≤ logWords ⌝ }
+{
+    let mut h = START;
+    let mut i: usize = 0;
+    while i < count {
+        h = mixed_record(h, steps::entry(log, i));
         i += 1;
     }
     h
@@ -173,13 +218,7 @@ fn push(s: Sequence, term: u32) -> Turn {
 fn register_in(s: Sequence, a: &mut [u8], b: &mut [u8]) {
     let r = sequence::register(s, a, b);
     text(b"register ");
-    match r {
-        Reported::Length(l) => {
-            text(b"length ");
-            decimal(l as u64);
-        }
-        Reported::Refused(r) => refused(r),
-    }
+    reported(r);
     print_hash(hash(a));
     end_hash(hash(b));
 }
@@ -321,6 +360,28 @@ fn look_up(c: Call) -> bool {
     look_up_in(&mut query[0..x], &mut records[0..y], &mut entry[0..z])
 }
 
+// A sheet is not lent: its records are those of the log, and the room only counts them.
+fn trace_in(s: Sequence, a: &mut [u8], b: &mut [u8], room: u32) {
+    let mut log = [0u64; LOG];
+    let w = sequence::work(s, a, b, room as usize, &mut log);
+    text(b"trace ");
+    let r = w.reply;
+    reported(r);
+    print_hash(hash(a));
+    print_hash(hash(b));
+    end_hash(hash_log(&log, w.count));
+}
+
+fn trace(s: Sequence, c: Call) -> Turn {
+    let fill = c.fill;
+    let x = c.x as usize;
+    let y = c.y as usize;
+    let mut a = [fill; 65536];
+    let mut b = [fill; 65536];
+    trace_in(s, &mut a[0..x], &mut b[0..y], c.number);
+    kept(s, true)
+}
+
 fn forge(s: Sequence, c: Call) -> Turn {
     if c.x as usize != QUERY_BYTES {
         text(b"script bad forge\n");
@@ -354,6 +415,7 @@ fn act(s: Sequence, c: Call) -> Turn {
         6 => kept(s, synthesize(c)),
         7 => kept(s, look_up(c)),
         8 => forge(s, c),
+        9 => trace(s, c),
         _ => unknown(s, operation),
     }
 }
