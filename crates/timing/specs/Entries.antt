@@ -1,8 +1,8 @@
 -- What the entry points for the benchmark reply and write.
 -- Assumes nothing.
 use mathlib.Core.Bool.{Bool, not}
-use mathlib.Core.List.{List}
-use Prim.Native.Nat.{ℕ, zero}
+use mathlib.Core.List.{List, [], _∷_}
+use Prim.Native.Nat.{ℕ, zero, _+_}
 use lib.Dec.{ltb, leb}
 use Rattle.lists.specs.Choice.{pick, both}
 use Rattle.lists.specs.Search.{all}
@@ -11,10 +11,12 @@ use Rattle.residue.specs.Factors.{leastPower}
 use Rattle.recurrence.specs.Polynomial.{Pair, len}
 use Rattle.recurrence.specs.Steps.{rowAt}
 use Rattle.steps.specs.Sizes.{maxTerms, maxCells}
+use Rattle.steps.specs.declared.StepRecord.{StepRecord}
 use Rattle.sequence.specs.declared.Sequence.{Sequence}
 use Rattle.sequence.specs.declared.Reported.{Reported}
 use Rattle.sequence.specs.declared.Reported.the-variants as P
 use Rattle.sequence.specs.Rules.{outside}
+use Rattle.sequence.specs.Trace.{recordsOf}
 
 -- ---- the steps alone
 
@@ -48,3 +50,19 @@ given m n S = record { modulus = m; count = n; terms = S }
 abbrev pub lengthOf : Reported → ℕ
 lengthOf (P.Length l) = l
 lengthOf (P.Refused r) = maxCells
+
+-- ---- the working
+
+-- the eight numbers of a record, added up
+abbrev pub numbersOf : StepRecord → ℕ
+numbersOf x = x .power + x .k + x .row + x .length + x .u + x .theta + x .g + x .case
+
+-- the numbers of all records of a list
+unfoldable pub allNumbers : List StepRecord → ℕ
+allNumbers [] = zero
+allNumbers (x ∷ xs) = numbersOf x + allNumbers xs
+
+-- the sum that is replied: over the records of the sequence's sheet; of a refusal, 0
+abbrev pub sumOf : Reported → Sequence → ℕ
+sumOf (P.Length l) s = allNumbers (recordsOf s)
+sumOf (P.Refused r) s = zero

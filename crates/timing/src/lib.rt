@@ -3,12 +3,20 @@
 use sequence::Reported;
 use sequence::Sequence;
 use steps::CELLS;
+use steps::LOG;
 use steps::Ring;
+use steps::StepRecord;
 use steps::TERMS;
 ghost use mathlib.Core.Path.{_≡_};
+ghost use Prim.Native.Nat.{ℕ, _≤_};
 ghost use Rattle.lists.specs.Choice.{pick};
+ghost use Rattle.lists.specs.Sum.{sumTo};
+ghost use Rattle.lists.specs.Table.{at};
+ghost use Rattle.steps.specs.Sizes.{logWords};
+ghost use Rattle.steps.specs.Log.{unpacked};
 ghost use Rattle.sequence.specs.Report.{reportOf, written, aBuffer, bBuffer};
-ghost use Rattle.timing.specs.Entries.{low, fits, rowCells, rowLengths, given, lengthOf};
+ghost use Rattle.sequence.specs.Trace.{traceOf};
+ghost use Rattle.timing.specs.Entries.{low, fits, rowCells, rowLengths, given, lengthOf, numbersOf, sumOf};
 
 // Whether every term is small enough for the products of the steps.
 fn are_low(s: &[u32; TERMS]) -> bool
@@ -60,7 +68,8 @@ pub extern "C" fn timing_steps(
             q: f.value,
             scale: scale,
         };
-        steps::run(s, n, ring, a, lens);
+        let mut none = [0u64; 1];
+        steps::run(s, n, ring, a, lens, &mut none[0..0], 0);
         return true;
     }
     false
@@ -93,4 +102,55 @@ pub extern "C" fn timing_register(
         Reported::Length(l) => l,
         Reported::Refused(_) => CELLS as u32,
     }
+}
+
+// The numbers of a record, added up: at most 8 (2^32 - 1).
+fn total(x: StepRecord) -> u64
+    ensures { λ r. ⌜ (r ≡ numbersOf x) × (r ≤ 34359738360) ⌝ }
+{
+    let place = (x.power as u64) + (x.k as u64) + (x.row as u64) + (x.length as u64);
+    place + (x.u as u64) + (x.theta as u64) + (x.g as u64) + (x.case as u64)
+}
+
+// The numbers of the first records of a log, added up.
+fn add_up(log: &[u64; LOG], count: usize) -> u64
+    requires { ⌜ count ≤ logWords ⌝ }
+    ensures { λ r. ⌜ r ≡ sumTo count (λ (i : ℕ). numbersOf (unpacked (at (now (log .entry)) i))) ⌝ }
+{
+    let mut sum: u64 = 0;
+    let mut i: usize = 0;
+    while i < count {
+        sum += total(steps::entry(log, i));
+        i += 1;
+    }
+    sum
+}
+
+// The register of a sequence with its working, all but storing the records: each is read, and the reply is the sum of all their numbers, or 0
+// where the call refuses, so that no record can be left out.
+// Rejected: one that reads all but the last record; one that counts the records.
+#[no_mangle]
+pub extern "C" fn timing_trace(
+    m: u32,
+    count: u32,
+    terms: &[u32; TERMS],
+    a: &mut [u8],
+    b: &mut [u8],
+) -> u64
+    ensures { λ r. ⌜ r ≡ sumOf (traceOf (given m count (now (terms .entry))) (now (a .entry)) (now (b .entry)) logWords)
+        (given m count (now (terms .entry))) ⌝ }
+    ensures { λ _. ⌜ now (a .exit) ≡ written (traceOf (given m count (now (terms .entry))) (now (a .entry)) (now (b .entry)) logWords)
+        (aBuffer (given m count (now (terms .entry)))) (now (a .entry)) ⌝ }
+    ensures { λ _. ⌜ now (b .exit) ≡ written (traceOf (given m count (now (terms .entry))) (now (a .entry)) (now (b .entry)) logWords)
+        (bBuffer (given m count (now (terms .entry)))) (now (b .entry)) ⌝ }
+{
+    let t = *terms;
+    let s = Sequence {
+        modulus: m,
+        count: count,
+        terms: t,
+    };
+    let mut log = [0u64; LOG];
+    let w = sequence::work(s, a, b, LOG, &mut log);
+    add_up(&log, w.count)
 }

@@ -1,6 +1,7 @@
 -- `timing_steps` meets its contract: what fits has a ring for the steps, and anything else is left as it was.
 -- Assumes nothing.
 use mathlib.Core.Path.{_≡_, refl, sym, _∙_, subst}
+use native.Mathlib.Nat.{mul-le-mul}
 use native.Mathlib.Omega.{arith}
 use borrow.Author.Needs.{needs}
 use Rattle.residue.specs.Factors.{leastPower}
@@ -39,15 +40,28 @@ scale-requires c κs =
     let v = c .split .ensures .2 in
     (omega (arith, least-value m (f .least)), omega (arith, value-most m (f .least), f .most))
 
+sub-run : tie.Need-sub-run
+sub-run c = search needs
+
+part-none-start : tie.Need-part-none-start
+part-none-start c = search needs
+
+part-none-end : tie.Need-part-none-end
+part-none-end c = search needs
+
+-- 128 terms at 15 rows are what a log has places for
 run-requires : tie.Need-run-requires
 run-requires c κs =
-    let f = known (c .before .before .before .before) in
-    (subst (λ (r : Ring). Setting r (c .before .before .before .before .before .before .args .s .now)) (sym (same (c .before .before))) (ring-fits (f .least) (omega (arith, f .most)) (f .terms)), f .few)
+    let f = known (c .before .before .before .before .before) in
+    let ring = made (c .before .before .before) in
+    let st : Setting ring (c .before .before .before .before .before .before .before .args .s .now) = subst (λ (r : Ring). Setting r (c .before .before .before .before .before .before .before .args .s .now)) (sym (same (c .before .before .before))) (ring-fits (f .least) (omega (arith, f .most)) (f .terms)) in
+    (st, f .few, omega (arith, mul-le-mul (f .few) (st .few)))
 
 returns : tie.Need-returns
 returns c =
-    let z = c .before .before .before .before .before .before .before .args in
-    let r = subst (λ (y : Ring). Result y (z .s .now) (z .n) (c .run .last .1 .1 .1 .0) (c .run .last .1 .1 .1 .1 .0)) (same (c .before .before .before)) (c .run .ensures) in
+    let z = c .before .before .before .before .before .before .before .before .before .args in
+    let x = c .before .run in
+    let r = subst (λ (y : Ring). Result y (z .s .now) (z .n) (x .last .1 .1 .1 .0) (x .last .1 .1 .1 .1 .0)) (same (c .before .before .before .before .before)) (x .ensures .0) in
     (cc, (cells-are (z .m) r, lengths-are (z .m) r))
 
 returns-2 : tie.Need-returns-2
@@ -55,4 +69,14 @@ returns-2 c = (cc, (refl, refl))
 
 pub timing-steps-spec : {M : Type 1} → statement M
 timing-steps-spec =
-    tie.close (tie.spec fits-requires split-requires scale-requires run-requires returns returns-2)
+    tie.close
+    (tie.spec
+    fits-requires
+    split-requires
+    scale-requires
+    sub-run
+    part-none-start
+    part-none-end
+    run-requires
+    returns
+    returns-2)
