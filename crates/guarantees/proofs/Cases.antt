@@ -12,7 +12,7 @@ use Rattle.residue.specs.Factors.{leastDivisor, leastPower, powersUpTo, primePo
 use Rattle.residue.specs.Remainders.{joined}
 use Rattle.recurrence.specs.Polynomial.{conv, plus, times, up, top, degree, len}
 use Rattle.recurrence.specs.Steps.{discrepancy, caseOf, partner, multiplier, change, remembered, older, noOlder, next, history, rowAt}
-use Rattle.recurrence.specs.Register.{part, parts, complexity, coefficient, register}
+use Rattle.recurrence.specs.Register.{part, parts, complexity, register}
 use Rattle.recurrence.specs.Running.{cell, generated, firstDifference}
 use Rattle.synthesis.specs.Synthesis.{lengthAt}
 use Rattle.sequence.specs.Rules.{faultOf, openOf, pushOf, sequenceOf, checkOf}
@@ -22,7 +22,7 @@ use Rattle.guarantees.specs.Calls.{afterAll}
 use Rattle.guarantees.specs.Cases.{reply, lengths, run, Cases}
 
 pub cases : Cases
-unfolding tabulate largest first all every sumTo bytesOf neg inverse valuation cofactor leastDivisor leastPower powersUpTo primePowers joined conv plus times up top degree len discrepancy caseOf partner multiplier change remembered older noOlder next history rowAt part parts complexity coefficient register cell generated firstDifference faultOf openOf pushOf sequenceOf checkOf reportOf profileOf lengthAt flawOf judgeOf verifyOf generateOf afterAll reply lengths run
+unfolding tabulate largest first all every sumTo bytesOf neg inverse valuation cofactor leastDivisor leastPower powersUpTo primePowers joined conv plus times up top degree len discrepancy caseOf partner multiplier change remembered older noOlder next history rowAt part parts complexity register cell generated firstDifference faultOf openOf pushOf sequenceOf checkOf reportOf profileOf lengthAt flawOf judgeOf verifyOf generateOf afterAll reply lengths run
 cases =
     record {
       case1 = refl;

@@ -12,7 +12,7 @@ use Rattle.residue.specs.Factors.{leastDivisor, leastPower, powersUpTo, primePo
 use Rattle.residue.specs.Remainders.{joined}
 use Rattle.recurrence.specs.Polynomial.{conv, plus, times, up, top, degree, len}
 use Rattle.recurrence.specs.Steps.{discrepancy, caseOf, partner, multiplier, change, remembered, older, noOlder, next, history, rowAt}
-use Rattle.recurrence.specs.Register.{part, parts, complexity, coefficient, register}
+use Rattle.recurrence.specs.Register.{part, parts, complexity, register}
 use Rattle.recurrence.specs.Working.{caseNumber, partnerTold, stepAt, stepsAt, stepsOver, sheetOf, rowsOver}
 use Rattle.recurrence.specs.Running.{cell, generated, firstDifference}
 use Rattle.sequence.specs.Answers.{firstOf}
@@ -24,7 +24,7 @@ use Rattle.guarantees.specs.Calls.{afterAll}
 use Rattle.guarantees.specs.Numbers.{Numbers, Orders}
 
 pub numbers : Numbers
-unfolding tabulate largest first all every sumTo bytesOf equal neg inverse valuation cofactor leastDivisor leastPower powersUpTo primePowers joined conv plus times up top degree len discrepancy caseOf partner multiplier change remembered older noOlder next history rowAt part parts complexity coefficient register caseNumber partnerTold stepAt stepsAt stepsOver sheetOf rowsOver traceOf cell generated firstDifference firstOf faultOf openOf pushOf afterAll sequenceOf flawOf judgeOf verifyAnswer generateAnswer layout recordOf synthesizeAnswer firstMatch passes lookUpAnswer
+unfolding tabulate largest first all every sumTo bytesOf equal neg inverse valuation cofactor leastDivisor leastPower powersUpTo primePowers joined conv plus times up top degree len discrepancy caseOf partner multiplier change remembered older noOlder next history rowAt part parts complexity register caseNumber partnerTold stepAt stepsAt stepsOver sheetOf rowsOver traceOf cell generated firstDifference firstOf faultOf openOf pushOf afterAll sequenceOf flawOf judgeOf verifyAnswer generateAnswer layout recordOf synthesizeAnswer firstMatch passes lookUpAnswer
 numbers =
     record {
       opened = refl;
@@ -70,7 +70,7 @@ numbers =
     }
 
 pub orders : Orders
-unfolding tabulate largest first all every sumTo bytesOf equal neg inverse valuation cofactor leastDivisor leastPower powersUpTo primePowers joined conv plus times up top degree len discrepancy caseOf partner multiplier change remembered older noOlder next history rowAt part parts complexity coefficient register caseNumber partnerTold stepAt stepsAt stepsOver sheetOf rowsOver traceOf cell generated firstDifference firstOf faultOf openOf pushOf afterAll sequenceOf flawOf judgeOf verifyAnswer generateAnswer layout recordOf synthesizeAnswer firstMatch passes lookUpAnswer
+unfolding tabulate largest first all every sumTo bytesOf equal neg inverse valuation cofactor leastDivisor leastPower powersUpTo primePowers joined conv plus times up top degree len discrepancy caseOf partner multiplier change remembered older noOlder next history rowAt part parts complexity register caseNumber partnerTold stepAt stepsAt stepsOver sheetOf rowsOver traceOf cell generated firstDifference firstOf faultOf openOf pushOf afterAll sequenceOf flawOf judgeOf verifyAnswer generateAnswer layout recordOf synthesizeAnswer firstMatch passes lookUpAnswer
 orders =
     record {
       push-21-22 = refl;

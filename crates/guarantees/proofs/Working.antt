@@ -23,7 +23,7 @@ use Rattle.sequence.specs.Limits.{maxModulus, maxTerms, maxCells, aBytes, bByte
 use Rattle.sequence.specs.Report.{registerOf, aBuffer, bBuffer, written}
 use Rattle.sequence.specs.Trace.{recordsOf, traceOf, sheetFilled}
 use Rattle.guarantees.specs.Calls.{taken}
-use Rattle.guarantees.specs.Claims.{WorkedBy, EveryTrace, TheWorking}
+use Rattle.guarantees.specs.Claims.{WorkedBy, TooShort, EveryTrace, TheWorking}
 use Rattle.guarantees.proofs.State.{holding, padded, Good, sound-for, state, good}
 use Rattle.guarantees.proofs.Demand.{alike, same-register}
 
@@ -49,6 +49,15 @@ module _ (m : ℕ) (least : 2 ≤ m) (most : m ≤ maxModulus) (ts : List ℕ) (
   is-short : length lent < length ts * rows → traceOf s a b (length lent) ≡ Refused Buffer
   unfolding traceOf
   is-short h = rw (eq-eqb (length a) aBytes ha, eq-eqb (length b) bBytes hb, sound-for m least most ts g, lt-leb (length ts * rows) (length lent) h)
+
+  too-short : length lent < length ts * rows → TooShort s a b lent
+  too-short h =
+      record {
+        refused = is-short h;
+        a-lent = ap (λ (r : Reported). written r (aBuffer s) a) (is-short h);
+        b-lent = ap (λ (r : Reported). written r (bBuffer s) b) (is-short h);
+        sheet-lent = ap (λ (r : Reported). sheetFilled r (recordsOf s) lent) (is-short h);
+      }
 
   module _ (room : length ts * rows ≤ length lent) where
     is-done : traceOf s a b (length lent) ≡ Length (registerOf s .length)
@@ -82,4 +91,4 @@ working m least most calls a b lent ha hb =
     let ts = taken m calls in
     let g = good m least most calls in
     subst (λ (s : Sequence). EveryTrace m ts s a b lent) (sym (state m least most calls))
-    (record { works = works m least most ts g a b lent ha hb; short = is-short m least most ts g a b lent ha hb })
+    (record { works = works m least most ts g a b lent ha hb; short = too-short m least most ts g a b lent ha hb })

@@ -86,11 +86,17 @@ WorkedBy m ts s a b lent =
     let r = traceOf s a b (length lent) in
     Works m ts r (written r (aBuffer s) a) (written r (bBuffer s) b) lent (sheetFilled r (recordsOf s) lent)
 
--- A trace of the sequence s of terms ts: one whose sheet has n records for each row shows the working, and one whose sheet has fewer is
--- refused by 5 (and then all that was lent is as it was).
+-- a trace that is refused by 5, and leaves all that was lent as it was
+pub record TooShort (s : Sequence) (a b : List ℕ) (lent : List StepRecord) : Type 0 where
+  pub refused : traceOf s a b (length lent) ≡ Refused Buffer
+  pub a-lent : written (traceOf s a b (length lent)) (aBuffer s) a ≡ a
+  pub b-lent : written (traceOf s a b (length lent)) (bBuffer s) b ≡ b
+  pub sheet-lent : sheetFilled (traceOf s a b (length lent)) (recordsOf s) lent ≡ lent
+
+-- A trace of the sequence s of terms ts: one whose sheet has n records for each row shows the working, one whose sheet has fewer is refused.
 pub record EveryTrace (m : ℕ) (ts : List ℕ) (s : Sequence) (a b : List ℕ) (lent : List StepRecord) : Type 0 where
   pub works : length ts * rowsOver (primePowers m) ≤ length lent → WorkedBy m ts s a b lent
-  pub short : length lent < length ts * rowsOver (primePowers m) → traceOf s a b (length lent) ≡ Refused Buffer
+  pub short : length lent < length ts * rowsOver (primePowers m) → TooShort s a b lent
 
 -- For every modulus within the limits, after every list of calls, of the terms taken.
 unfoldable pub TheWorking : Type 0

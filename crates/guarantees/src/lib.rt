@@ -1,5 +1,6 @@
-// The claims that speak of several calls: specs/ has them, proofs/ their proofs. The one function drives a list of calls through
-// the calls themselves; its contract says what they all do together, and the claim about every list.
+// The claims that speak of several calls: specs/ has them, proofs/ their proofs. The one function drives a list of pushes, registers and
+// profiles through the calls themselves; its contract says what they all do together, and the claim about every such list. (A trace has no
+// code there: it is lent a slice of structs.)
 use sequence::Outcome;
 use sequence::Reported;
 use sequence::Sequence;

@@ -1,7 +1,7 @@
 -- Laws of lists made by a rule for their entries.
 -- Assumes nothing.
 use mathlib.Core.Path.{_≡_, refl, sym, ap, ap₂, _∙_, subst}
-use mathlib.Core.List.{List, _∷_}
+use mathlib.Core.List.{List, [], _∷_, _++_, map}
 use Prim.Native.Nat.{ℕ, zero, suc, _+_, _≤_, _<_}
 use native.Mathlib.Nat.{not-suc-le-zero, lt-irrefl, le-trans}
 use native.Mathlib.Decide.{ℕ-discrete, decLt}
@@ -50,6 +50,18 @@ is-tabulate n f d xs e h =
 
 pub tabulate-self : {A : Type 0} (d : A) (xs : List A) → xs ≡ tabulate (length xs) (λ j. getD xs j d)
 tabulate-self d xs = is-tabulate (length xs) (λ j. getD xs j d) d xs refl (λ i h. refl)
+
+-- the last entry at the end
+pub tabulate-last : {A : Type 0} (n : ℕ) (f : ℕ → A) → tabulate (suc n) f ≡ tabulate n f ++ (f n ∷ [])
+unfolding tabulate
+tabulate-last zero f = refl
+tabulate-last (suc n) f = ap (λ (ys : List _). f zero ∷ ys) (tabulate-last n (λ i. f (suc i)))
+
+-- each entry of a list, by its place
+pub map-tabulate : {A B : Type 0} (f : A → B) (d : A) (xs : List A) → map f xs ≡ tabulate (length xs) (λ i. f (getD xs i d))
+unfolding tabulate
+map-tabulate f d [] = refl
+map-tabulate f d (x ∷ xs) = ap (λ (ys : List _). f x ∷ ys) (map-tabulate f d xs)
 
 -- A list of n entries of which the first i are by the rule f: what a loop that fills an array knows.
 pub record Filled {A : Type 0} (d : A) (f : ℕ → A) (n i : ℕ) (xs : List A) : Type 0 where

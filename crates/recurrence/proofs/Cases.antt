@@ -92,8 +92,16 @@ pub record Sheets : Type 0 where
   -- several primes: the least one's records first
   pub sheet6 : sheet 6 (3 ∷ 3 ∷ []) ≡ step 2 0 0 0 0 1 0 2 ∷ step 2 1 0 1 0 1 0 3 ∷ step 3 0 0 0 1 1 1 1 ∷ step 3 1 0 0 1 1 1 1 ∷ []
   pub replay6 : again 6 (3 ∷ 3 ∷ []) ≡ record { length = 1; a = 1 ∷ 3 ∷ []; b = 3 ∷ [] }
+  -- a power and a prime
+  pub sheet12 :
+      sheet 12 (7 ∷ 2 ∷ 5 ∷ [])
+      ≡ step 4 0 0 0 0 3 1 2 ∷ step 4 0 1 0 1 1 0 2
+      ∷ step 4 1 0 1 1 1 0 3 ∷ step 4 1 1 1 2 1 2 1
+      ∷ step 4 2 0 1 0 1 1 3 ∷ step 4 2 1 1 1 1 0 3
+      ∷ step 3 0 0 0 0 1 0 2 ∷ step 3 1 0 1 0 2 0 3 ∷ step 3 2 0 1 0 1 0 3 ∷ []
+  pub replay12 : again 12 (7 ∷ 2 ∷ 5 ∷ []) ≡ record { length = 2; a = 1 ∷ 10 ∷ 5 ∷ []; b = 7 ∷ 0 ∷ [] }
   pub replay8 : again 8 (6 ∷ 4 ∷ []) ≡ record { length = 1; a = 1 ∷ 6 ∷ []; b = 6 ∷ [] }
 
 pub second-table : Sheets
 unfolding again lengths
-second-table = record { table2 = refl; last = refl; replay9 = refl; none = refl; sheet6 = refl; replay6 = refl; replay8 = refl }
+second-table = record { table2 = refl; last = refl; replay9 = refl; none = refl; sheet6 = refl; replay6 = refl; sheet12 = refl; replay12 = refl; replay8 = refl }

@@ -19,12 +19,16 @@ use Rattle.residue.proofs.Remainders.{Leaves, rests, leaves-at, factored-joined
 use Rattle.recurrence.specs.Polynomial.{Pair, len, Generates}
 use Rattle.recurrence.specs.Steps.{rowAt}
 use Rattle.recurrence.specs.Least.{Least}
-use Rattle.recurrence.specs.Register.{Register, pairOf, Part, lengthFrom, registerFrom, part, parts, complexity, coefficient, register}
+use Rattle.recurrence.specs.Register.{Register, pairOf, Part, lengthFrom, coefficientFrom, registerFrom, part, parts, complexity, register}
 use Rattle.recurrence.proofs.Pairs.{Deg, conv-cong}
 use Rattle.recurrence.proofs.Polynomial.{Reduced, len-deg, len-least}
 use Rattle.recurrence.proofs.Steps.{Alike, row-same}
 use Rattle.recurrence.proofs.Length.{least-of-pair}
 use Rattle.recurrence.proofs.Theorem.{shortest, reduced, length-le, lead, past-a, past-b}
+
+-- a coefficient of the joined register
+unfoldable pub coefficient : ℕ → List ℕ → ℕ → (Pair → List ℕ) → ℕ → ℕ
+coefficient m S n side i = coefficientFrom m (parts m S n) side i
 
 -- what is right of a register for the first n terms of S modulo m
 pub record Right (m : ℕ) (S : List ℕ) (n : ℕ) (x : Register) : Type 0 where

@@ -4,11 +4,12 @@ use mathlib.Core.Path.{_≡_, refl, sym, ap, ap₂, _∙_, subst, fun-ext}
 use mathlib.Core.Logic.{_⊎_, inl, inr}
 use mathlib.Core.List.{List, [], _∷_, _++_, map, append-assoc, append-nil}
 use Prim.Native.Nat.{ℕ, zero, suc, _+_, _*_, _-_, _/_, _^_, _≤_, _<_}
-use native.Mathlib.Nat.{pos-of-ne-zero, mod-lt, pow-zero, pow-succ', pow-le-pow-left, pow-le-pow-right, mul-le-mul-left, mul-le-mul-right}
+use native.Mathlib.Nat.{pos-of-ne-zero, mod-lt, pow-zero, pow-le-pow-left, pow-le-pow-right, mul-le-mul-left, mul-le-mul-right}
 use native.Mathlib.Decide.{decLe}
 use native.Mathlib.Omega.{arith}
-use lib.ListN.{length, getD, drop, length-append}
-use lib.Seq.{drop-at}
+use lib.ListN.{length, getD, drop, length-append, List·getD-append}
+use lib.Pow.{pow-add}
+use lib.Seq.{drop-at, getD-append-add}
 use borrow.Author.Tests.{lt-ltb, le-ltb}
 use Rattle.lists.specs.Table.{tabulate}
 use Rattle.lists.proofs.Table.{length-tabulate, getD-tabulate, tabulate-eq}
@@ -43,12 +44,6 @@ pub length-sheet : (m : ℕ) (S : List ℕ) (n : ℕ) → length (sheetOf m S n)
 unfolding sheetOf
 length-sheet m S n = length-stepsOver S n (primePowers m)
 
-two-sum : (x y : ℕ) → 2 ^ (x + y) ≡ 2 ^ x * 2 ^ y
-two-sum zero y = ap (λ (k : ℕ). 2 ^ k) (let z : zero + y ≡ y = omega arith in z) ∙ omega (arith, pow-zero 2)
-two-sum (suc x) y =
-    ap (λ (k : ℕ). 2 ^ k) (let z : suc x + y ≡ suc (x + y) = omega arith in z)
-    ∙ omega (arith, pow-succ' 2 (x + y), two-sum x y, ap (λ (k : ℕ). k * 2 ^ y) (pow-succ' 2 x))
-
 -- there are at most as many rows as m has digits to base 2
 pub rows-most : {m : ℕ} {fs : List PrimePower} → Factored m fs → 2 ^ rowsOver fs ≤ m
 unfolding rowsOver
@@ -56,7 +51,7 @@ rows-most one = omega (arith, pow-zero 2)
 rows-most (more {rest = R} {f = f} {fs = fs} P pos bare some F) =
     let up : 2 ^ f .exponent ≤ value f = pow-le-pow-left (P .big) (f .exponent) in
     let on : 2 ^ rowsOver fs ≤ R = rows-most F in
-    omega (arith, two-sum (f .exponent) (rowsOver fs), mul-le-mul-right {m = 2 ^ f .exponent} {n = value f} (2 ^ rowsOver fs) up, mul-le-mul-left (value f) on)
+    omega (arith, pow-add 2 (f .exponent) (rowsOver fs), mul-le-mul-right {m = 2 ^ f .exponent} {n = value f} (2 ^ rowsOver fs) up, mul-le-mul-left (value f) on)
 
 pub rows-low : {m : ℕ} {fs : List PrimePower} → Factored m fs → m < 65536 → rowsOver fs ≤ 15
 rows-low {m} {fs} F small = go (decLe (rowsOver fs) 15)
@@ -84,15 +79,6 @@ steps-more m S n h = ap (stepsOver S n) (powers-more m h)
 
 -- ---- a record by its place
 
-pub getD-left : {A : Type 0} (xs ys : List A) (i : ℕ) (d : A) → i < length xs → getD (xs ++ ys) i d ≡ getD xs i d
-getD-left [] ys i d h = absurd (omega arith)
-getD-left (x ∷ xs) ys zero d h = refl
-getD-left (x ∷ xs) ys (suc i) d h = getD-left xs ys i d (omega arith)
-
-getD-right : {A : Type 0} (xs ys : List A) (i : ℕ) (d : A) → getD (xs ++ ys) (length xs + i) d ≡ getD ys i d
-getD-right [] ys i d = ap (λ (j : ℕ). getD ys j d) (let z : zero + i ≡ i = omega arith in z)
-getD-right (x ∷ xs) ys i d = ap (λ (j : ℕ). getD (x ∷ xs ++ ys) j d) (let z : suc (length xs) + i ≡ suc (length xs + i) = omega arith in z) ∙ getD-right xs ys i d
-
 module _ (S : List ℕ) (f : PrimePower) where
   -- the place of a row in the block of its step
   place-lt : (n k η : ℕ) → k < n → η < f .exponent → k * f .exponent + η < n * f .exponent
@@ -109,18 +95,18 @@ module _ (S : List ℕ) (f : PrimePower) where
   stepsAt-at (suc n) k η d a b = go (λ l. stepsAt-at n k η d l b) (lt-or-le k n)
     where
       go : (k < n → getD (stepsAt S f n) (k * f .exponent + η) d ≡ stepAt S f k η) → (k < n) ⊎ (n ≤ k) → getD (stepsAt S f n ++ tabulate (f .exponent) (stepAt S f n)) (k * f .exponent + η) d ≡ stepAt S f k η
-      go ih (inl l) = getD-left (stepsAt S f n) _ (k * f .exponent + η) d (omega (arith, length-stepsAt S f n, place-lt n k η l b)) ∙ ih l
+      go ih (inl l) = List·getD-append (stepsAt S f n) _ d (k * f .exponent + η) (omega (arith, length-stepsAt S f n, place-lt n k η l b)) ∙ ih l
       go ih (inr l) =
           let z : k ≡ n = omega arith in
           let e : k * f .exponent + η ≡ length (stepsAt S f n) + η = omega (arith, length-stepsAt S f n, ap (λ (x : ℕ). x * f .exponent) z) in
           ap (λ (j : ℕ). getD (stepsAt S f n ++ tabulate (f .exponent) (stepAt S f n)) j d) e
-          ∙ getD-right (stepsAt S f n) _ η d ∙ getD-tabulate (f .exponent) (stepAt S f n) η d b ∙ ap (λ (j : ℕ). stepAt S f j η) (sym z)
+          ∙ getD-append-add (stepsAt S f n) _ η d ∙ getD-tabulate (f .exponent) (stepAt S f n) η d b ∙ ap (λ (j : ℕ). stepAt S f j η) (sym z)
 
   -- and before anything else
   pub recordIn-at : (n : ℕ) (others : List Step) (k η : ℕ) → k < n → η < f .exponent
       → recordIn (stepsAt S f n ++ others) (f .exponent) k η ≡ stepAt S f k η
   recordIn-at n others k η a b =
-      getD-left (stepsAt S f n) others (k * f .exponent + η) _ (omega (arith, length-stepsAt S f n, place-lt n k η a b)) ∙ stepsAt-at n k η _ a b
+      List·getD-append (stepsAt S f n) others _ (k * f .exponent + η) (omega (arith, length-stepsAt S f n, place-lt n k η a b)) ∙ stepsAt-at n k η _ a b
 
 -- ---- the steps at a prime power, retold
 

@@ -52,8 +52,5 @@ module _ (m : ℕ) (S : List ℕ) (n : ℕ) where
   unfoldable pub complexity : ℕ
   complexity = lengthFrom parts
 
-  unfoldable pub coefficient : (Pair → List ℕ) → ℕ → ℕ
-  coefficient side i = coefficientFrom m parts side i
-
   unfoldable pub register : Register
   register = registerFrom m parts

@@ -6,7 +6,6 @@ use libc::STDIN_FILENO;
 use libc::STDOUT_FILENO;
 use sequence::Outcome;
 use sequence::QUERY_BYTES;
-use sequence::Refusal;
 use sequence::Reported;
 use sequence::Sequence;
 use steps::LOG;
@@ -61,33 +60,20 @@ fn is_cut(buf: &mut [u8]) -> bool {
     n < buf.len()
 }
 
-fn text(s: &[u8]) {
-    io::write_all(STDOUT_FILENO, s);
-}
-
-fn decimal(n: u64) {
-    io::print_decimal(STDOUT_FILENO, n);
-}
-
-fn refused(r: Refusal) {
-    text(b"refused ");
-    decimal(sequence::number(r));
-}
-
 fn outcome(o: Outcome) {
     match o {
-        Outcome::Done => text(b"ok"),
-        Outcome::Refused(r) => refused(r),
+        Outcome::Done => printing::text(b"ok"),
+        Outcome::Refused(r) => printing::refused(r),
     }
 }
 
 fn reported(r: Reported) {
     match r {
         Reported::Length(l) => {
-            text(b"length ");
-            decimal(l as u64);
+            printing::text(b"length ");
+            printing::number(l as u64);
         }
-        Reported::Refused(r) => refused(r),
+        Reported::Refused(r) => printing::refused(r),
     }
 }
 
@@ -161,13 +147,13 @@ fn hash_log(log: &[u64; LOG], count: usize) -> u32
 }
 
 fn print_hash(h: u32) {
-    text(b" ");
+    printing::text(b" ");
     io::print_hex(STDOUT_FILENO, h as u64, 8);
 }
 
 fn end_hash(h: u32) {
     print_hash(h);
-    text(b"\n");
+    printing::text(b"\n");
 }
 
 fn stopped(s: Sequence) -> Turn {
@@ -185,7 +171,7 @@ fn kept(s: Sequence, whole: bool) -> Turn {
             going: true,
         };
     }
-    text(b"script cut short\n");
+    printing::text(b"script cut short\n");
     stopped(s)
 }
 
@@ -200,7 +186,7 @@ fn held(s: Sequence) -> Turn {
 
 fn open(modulus: u32) -> Turn {
     let o = sequence::open(modulus);
-    text(b"open ");
+    printing::text(b"open ");
     let r = o.outcome;
     outcome(r);
     held(o.sequence)
@@ -208,7 +194,7 @@ fn open(modulus: u32) -> Turn {
 
 fn push(s: Sequence, term: u32) -> Turn {
     let p = sequence::push(s, term);
-    text(b"push ");
+    printing::text(b"push ");
     let r = p.outcome;
     outcome(r);
     held(p.sequence)
@@ -217,7 +203,7 @@ fn push(s: Sequence, term: u32) -> Turn {
 // Of each call with buffers, NAME lends them, and NAME_in makes the call in their parts of the stated lengths.
 fn register_in(s: Sequence, a: &mut [u8], b: &mut [u8]) {
     let r = sequence::register(s, a, b);
-    text(b"register ");
+    printing::text(b"register ");
     reported(r);
     print_hash(hash(a));
     end_hash(hash(b));
@@ -235,7 +221,7 @@ fn register(s: Sequence, c: Call) -> Turn {
 
 fn profile_in(s: Sequence, cells: &mut [u8]) {
     let o = sequence::profile(s, cells);
-    text(b"profile ");
+    printing::text(b"profile ");
     outcome(o);
     end_hash(hash(cells));
 }
@@ -260,16 +246,16 @@ fn verify_in(query: &mut [u8], a: &mut [u8], b: &mut [u8], l: u32) -> bool {
         return false;
     }
     let v = candidate::verify(query, a, b, l);
-    text(b"verify ");
+    printing::text(b"verify ");
     match v {
-        Verdict::Yes => text(b"yes"),
+        Verdict::Yes => printing::text(b"yes"),
         Verdict::No(i) => {
-            text(b"no ");
-            decimal(i as u64);
+            printing::text(b"no ");
+            printing::number(i as u64);
         }
-        Verdict::Refused(r) => refused(r),
+        Verdict::Refused(r) => printing::refused(r),
     }
-    text(b"\n");
+    printing::text(b"\n");
     true
 }
 
@@ -291,7 +277,7 @@ fn generate_in(c: Call, a: &mut [u8], b: &mut [u8], cells: &mut [u8]) -> bool {
         return false;
     }
     let o = candidate::generate(c.number, a, b, c.l as u32, cells);
-    text(b"generate ");
+    printing::text(b"generate ");
     outcome(o);
     end_hash(hash(cells));
     true
@@ -313,7 +299,7 @@ fn synthesize_in(query: &mut [u8], entry: &mut [u8]) -> bool {
         return false;
     }
     let o = catalogue::synthesize(query, entry);
-    text(b"synthesize ");
+    printing::text(b"synthesize ");
     outcome(o);
     end_hash(hash(entry));
     true
@@ -336,14 +322,14 @@ fn look_up_in(query: &mut [u8], records: &mut [u8], entry: &mut [u8]) -> bool {
         return false;
     }
     let u = catalogue::look_up(query, records, entry);
-    text(b"look_up ");
+    printing::text(b"look_up ");
     match u {
         LookedUp::Found(i) => {
-            text(b"found ");
-            decimal(i as u64);
+            printing::text(b"found ");
+            printing::number(i as u64);
         }
-        LookedUp::Made => text(b"made"),
-        LookedUp::Refused(r) => refused(r),
+        LookedUp::Made => printing::text(b"made"),
+        LookedUp::Refused(r) => printing::refused(r),
     }
     end_hash(hash(entry));
     true
@@ -364,7 +350,7 @@ fn look_up(c: Call) -> bool {
 fn trace_in(s: Sequence, a: &mut [u8], b: &mut [u8], room: u32) {
     let mut log = [0u64; LOG];
     let w = sequence::work(s, a, b, room as usize, &mut log);
-    text(b"trace ");
+    printing::text(b"trace ");
     let r = w.reply;
     reported(r);
     print_hash(hash(a));
@@ -384,22 +370,22 @@ fn trace(s: Sequence, c: Call) -> Turn {
 
 fn forge(s: Sequence, c: Call) -> Turn {
     if c.x as usize != QUERY_BYTES {
-        text(b"script bad forge\n");
+        printing::text(b"script bad forge\n");
         return stopped(s);
     }
     let mut query = [0u8; QUERY_BYTES];
     if is_cut(&mut query) {
         return kept(s, false);
     }
-    text(b"forge ok");
+    printing::text(b"forge ok");
     let q = sequence::check(&query);
     held(q.sequence)
 }
 
 fn unknown(s: Sequence, operation: u8) -> Turn {
-    text(b"script unknown ");
-    decimal(operation as u64);
-    text(b"\n");
+    printing::text(b"script unknown ");
+    printing::number(operation as u64);
+    printing::text(b"\n");
     stopped(s)
 }
 

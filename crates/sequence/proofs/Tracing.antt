@@ -1,21 +1,21 @@
 -- Laws of a trace: how many records it stores, that they are the sheet's, and its answer.
 -- Assumes nothing.
-use mathlib.Core.Path.{_≡_, refl, sym, ap, ap₂, _∙_}
+use mathlib.Core.Path.{_≡_, refl, sym, ap, ap₂, subst, _∙_}
 use mathlib.Core.Bool.{Bool, true, false, not}
 use mathlib.Core.List.{List, [], _∷_, _++_, map, append-assoc}
 use Prim.Native.Nat.{ℕ, zero, suc, _≤_, _<_}
 use native.Mathlib.Nat.{mul-le-mul}
 use native.Mathlib.Omega.{arith}
 use lib.Dec.{leb, eqb}
-use lib.ListN.{length, getD, set, drop, replicate, length-map, length-append, length-drop, length-replicate}
+use lib.ListN.{length, getD, set, drop, List·getD-append, replicate, length-map, length-append, length-drop, length-replicate}
 use lib.Seq.{drop-cons, set-at}
 use borrow.Author.Tests.{leb-true}
 use Rattle.lists.specs.Choice.{pick}
 use Rattle.lists.specs.Table.{at, tabulate}
-use Rattle.lists.proofs.Table.{length-tabulate, tabulate-eq}
+use Rattle.lists.proofs.Table.{length-tabulate, tabulate-eq, tabulate-last, map-tabulate}
 use Rattle.lists.proofs.Search.{false-true}
 use Rattle.recurrence.specs.Working.{sheetOf}
-use Rattle.recurrence.proofs.Working.{length-sheet, rows-few, getD-left}
+use Rattle.recurrence.proofs.Working.{length-sheet, rows-few}
 use Rattle.steps.specs.Sizes.{logWords}
 use Rattle.steps.specs.declared.StepRecord.{StepRecord}
 use Rattle.steps.specs.Log.{stepRecord, packed, unpacked, overlaid}
@@ -30,8 +30,8 @@ use Rattle.sequence.specs.declared.Worked.{Worked}
 use Rattle.sequence.specs.Limits.{aBytes, bBytes}
 use Rattle.sequence.specs.Answers.{granted, refused, reportedAnswer, firstOf}
 use Rattle.sequence.specs.Rules.{faultOf, isSound, IsSound}
-use Rattle.sequence.specs.Report.{registerOf}
-use Rattle.sequence.specs.Trace.{recordsOf, sheetSize, traceOf, traceAnswer, sheetFilled, wordsOf, countOf, workOf}
+use Rattle.sequence.specs.Report.{registerOf, aBuffer, bBuffer, written}
+use Rattle.sequence.specs.Trace.{recordsOf, sheetSize, traceOf, traceAnswer, sheetFilled, wordsOf, countOf, workOf, unworked}
 use Rattle.sequence.proofs.Laws.{sound-of}
 
 -- ---- the log before anything is written to it
@@ -84,16 +84,6 @@ trace-told s a b n e = ap reportedAnswer e ∙ go (eqb (length a) aBytes) (eqb (
 
 -- ---- the sheet while it is filled
 
-tabulate-last : {A : Type 0} (n : ℕ) (f : ℕ → A) → tabulate (suc n) f ≡ tabulate n f ++ (f n ∷ [])
-unfolding tabulate
-tabulate-last zero f = refl
-tabulate-last (suc n) f = ap (λ (ys : List _). f zero ∷ ys) (tabulate-last n (λ i. f (suc i)))
-
-map-tabulate : {A B : Type 0} (f : A → B) (d : A) (xs : List A) → map f xs ≡ tabulate (length xs) (λ i. f (getD xs i d))
-unfolding tabulate
-map-tabulate f d [] = refl
-map-tabulate f d (x ∷ xs) = ap (λ (ys : List _). f x ∷ ys) (map-tabulate f d xs)
-
 -- the record at place i of a log
 abbrev pub entryOf : List ℕ → ℕ → StepRecord
 entryOf log i = unpacked (at log i)
@@ -139,13 +129,21 @@ filled-sound s h lent behind = ap₂ (λ (xs : List StepRecord) (k : ℕ). xs ++
     same =
         sym (read-sheet (s .modulus) (s .terms) (s .count) (omega (arith, h .least)) (omega (arith, h .most)) (h .count))
         ∙ map-tabulate unpacked zero (wordsOf s)
-        ∙ tabulate-eq (length (wordsOf s)) _ (entryOf (wordsOf s ++ behind)) (λ i k. ap unpacked (sym (getD-left (wordsOf s) behind i zero k)))
+        ∙ tabulate-eq (length (wordsOf s)) _ (entryOf (wordsOf s ++ behind)) (λ i k. ap unpacked (sym (List·getD-append (wordsOf s) behind zero i k)))
         ∙ ap (λ (k : ℕ). tabulate k (entryOf (wordsOf s ++ behind))) (words-long s)
 
 -- ---- what `work` gives
 
-pub work-refused : (s : Sequence) (a b : List ℕ) (n : ℕ) (x : Refusal) → traceOf s a b n ≡ P.Refused x → record { reply = P.Refused x; count = zero } ≡ workOf s a b n
-work-refused s a b n x h = ap (λ (r : Reported). record { reply = r; count = countOf r s }) (sym h)
+-- what `work` promises of its reply and of what it is lent
+abbrev pub Promised : Sequence → List ℕ → List ℕ → ℕ → List ℕ → Worked → List ℕ → List ℕ → List ℕ → Type 0
+Promised s a b n log r a′ b′ log′ =
+    (r ≡ workOf s a b n) × (a′ ≡ written (r .reply) (aBuffer s) a) × (b′ ≡ written (r .reply) (bBuffer s) b) × (log′ ≡ sheetFilled (r .reply) (wordsOf s) log)
+
+-- where it is refused, all is as lent
+pub work-refused : (s : Sequence) (a b : List ℕ) (n : ℕ) (log : List ℕ) {x : Refusal} {r : Worked} → r ≡ unworked x → traceOf s a b n ≡ P.Refused x
+    → Promised s a b n log r a b log
+work-refused s a b n log {x} e h =
+    subst (λ (r : Worked). Promised s a b n log r a b log) (sym e) (ap (λ (r : Reported). record { reply = r; count = countOf r s }) (sym h), refl, refl, refl)
 
 pub work-done : (s : Sequence) (a b : List ℕ) (n l k : ℕ) → traceOf s a b n ≡ P.Length l → k ≡ sheetSize s → record { reply = P.Length l; count = k } ≡ workOf s a b n
 work-done s a b n l k h e =

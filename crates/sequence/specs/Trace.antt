@@ -11,6 +11,7 @@ use Rattle.recurrence.specs.Working.{sheetOf, rowsOver}
 use Rattle.steps.specs.declared.StepRecord.{StepRecord}
 use Rattle.steps.specs.Log.{stepRecord, words}
 use Rattle.sequence.specs.declared.Sequence.{Sequence}
+use Rattle.sequence.specs.declared.Refusal.{Refusal}
 use Rattle.sequence.specs.declared.Refusal.the-variants as R
 use Rattle.sequence.specs.declared.Reported.{Reported}
 use Rattle.sequence.specs.declared.Reported.the-variants as P
@@ -53,7 +54,7 @@ abbrev pub sheetFilled : {A : Type 0} → Reported → List A → List A → Lis
 sheetFilled (P.Length l) records lent = records ++ drop (length records) lent
 sheetFilled (P.Refused r) records lent = lent
 
--- ---- what `trace` stores: the log's words, one for each record, and their number
+-- ---- the covered function under it: the log's words, one for each record, and their number
 
 abbrev pub wordsOf : Sequence → List ℕ
 wordsOf s = words (sheetOf (s .modulus) (s .terms) (s .count))
@@ -64,3 +65,6 @@ countOf (P.Refused r) s = zero
 
 abbrev pub workOf : Sequence → List ℕ → List ℕ → ℕ → Worked
 workOf s a b n = record { reply = traceOf s a b n; count = countOf (traceOf s a b n) s }
+
+abbrev pub unworked : Refusal → Worked
+unworked r = record { reply = P.Refused r; count = zero }

@@ -1,5 +1,5 @@
-// A sequence of terms modulo m (the paper's reading): opening one, pushing a term, its register and its profile; what is wrong with one,
-// and the query that writes one down.
+// A sequence of terms modulo m (the paper's reading): opening one, pushing a term, its register, its profile and the working of its
+// register; what is wrong with one, and the query that writes one down.
 use steps::CELLS;
 use steps::LOG;
 use steps::StepRecord;
@@ -15,7 +15,7 @@ ghost use Rattle.synthesis.specs.Synthesis.{synthesisOf};
 ghost use Rattle.sequence.specs.Limits.{maxTerms, maxCells, queryBytes, aBytes, bBytes, registerBytes};
 ghost use Rattle.sequence.specs.Answers.{number, outcomeAnswer, reportedAnswer};
 ghost use Rattle.sequence.specs.Report.{reportOf, reportAnswer, written, aBuffer, bBuffer, profileOf, profileAnswer, filled, profileBuffer};
-ghost use Rattle.sequence.specs.Trace.{recordsOf, traceOf, traceAnswer, sheetFilled, wordsOf, workOf};
+ghost use Rattle.sequence.specs.Trace.{recordsOf, traceOf, traceAnswer, sheetFilled, wordsOf, workOf, unworked};
 ghost use Rattle.sequence.specs.Rules.{IsSound, outside, firstLarge, zeroFrom, faultOf, refusalOf, isSound, fresh, openOf, openAnswer, pushOf, pushAnswer, sequenceOf, checkedOf};
 
 // The largest modulus.
@@ -377,7 +377,17 @@ pub fn register(s: Sequence, a: &mut [u8], b: &mut [u8]) -> Reported
     Reported::Refused(Refusal::Sequence)
 }
 
-// All that `trace` does but storing the records, for a sheet with room for some: they are words of the log.
+// What `work` gives where the call is refused.
+fn unworked(r: Refusal) -> Worked
+    ensures { λ w. ⌜ w ≡ unworked r ⌝ }
+{
+    Worked {
+        reply: Reported::Refused(r),
+        count: 0,
+    }
+}
+
+// All that `trace` does but storing the records, for a sheet of `room` records: they are words of the log.
 pub fn work(s: Sequence, a: &mut [u8], b: &mut [u8], room: usize, log: &mut [u64; LOG]) -> Worked
     requires { ⌜ length (now log) ≡ logWords ⌝ }
     ensures { λ r. ⌜ (r ≡ workOf s (now (a .entry)) (now (b .entry)) room)
@@ -386,41 +396,26 @@ pub fn work(s: Sequence, a: &mut [u8], b: &mut [u8], room: usize, log: &mut [u64
         × (now (log .exit) ≡ sheetFilled (r .reply) (wordsOf s) (now (log .entry))) ⌝ }
 {
     if a.len() != A_BYTES {
-        return Worked {
-            reply: Reported::Refused(Refusal::Buffer),
-            count: 0,
-        };
+        return unworked(Refusal::Buffer);
     }
     if b.len() != B_BYTES {
-        return Worked {
-            reply: Reported::Refused(Refusal::Buffer),
-            count: 0,
-        };
+        return unworked(Refusal::Buffer);
     }
     if is_sound(s) {
         let n = s.count as usize;
         let count = n * synthesis::count_rows(s.modulus);
         if room < count {
-            return Worked {
-                reply: Reported::Refused(Refusal::Buffer),
-                count: 0,
-            };
+            return unworked(Refusal::Buffer);
         }
-        let terms = s.terms;
-        let x = synthesis::trace(s.modulus, &terms, n, log);
-        let xa = x.a;
-        let xb = x.b;
-        write_a(&xa, a);
-        write_b(&xb, b);
+        let x = synthesis::trace(s.modulus, &s.terms, n, log);
+        write_a(&x.a, a);
+        write_b(&x.b, b);
         return Worked {
             reply: Reported::Length(x.length),
             count: count,
         };
     }
-    Worked {
-        reply: Reported::Refused(Refusal::Sequence),
-        count: 0,
-    }
+    unworked(Refusal::Sequence)
 }
 
 // Does what `register` does, and fills a sheet with the working: one record for each row at each step, primes rising, then k, then the

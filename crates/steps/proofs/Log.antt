@@ -23,9 +23,10 @@ use Rattle.recurrence.proofs.Working.{stepsAt-at}
 use Rattle.steps.specs.Sizes.{maxTerms, maxRows}
 use Rattle.steps.specs.declared.Ring.{Ring}
 use Rattle.steps.specs.declared.StepRecord.{StepRecord}
+use Rattle.steps.specs.declared.Told.{Told}
 use Rattle.steps.specs.Run.{Setting}
 use Rattle.steps.specs.State.{Lens, Looks}
-use Rattle.steps.specs.Log.{stepRecord, packed, unpacked, words, overlaid, Narrow, Noted, powerOf, describedOf}
+use Rattle.steps.specs.Log.{stepRecord, packed, unpacked, words, overlaid, Narrow, Noted, powerOf, toldOf, describedOf}
 
 -- records are equal by their fields
 same-record : {a a′ b b′ c c′ d d′ e e′ f f′ g g′ h h′ : ℕ} → a ≡ a′ → b ≡ b′ → c ≡ c′ → d ≡ d′ → e ≡ e′ → f ≡ f′ → g ≡ g′ → h ≡ h′
@@ -139,28 +140,24 @@ rows-fit k n e h = omega (arith, mul-le-mul-right {m = suc k} {n = n} e h)
 
 -- ---- the records of a step
 
-module _ (ring : Ring) (len us ts : List ℕ) (k i : ℕ) where
+module _ (e : ℕ) (len : List ℕ) (u : ℕ) where
   abbrev g : ℕ
-  g = ring .e - 1 - at us i
+  g = e - 1 - u
 
-  in-case : Case → StepRecord
-  in-case c =
-      record { power = ring .q; k = k; row = i; length = at len i; u = at us i; theta = at ts i; g = partnerTold c (ring .e) g; case = caseNumber c }
+  in-case : Case → Told
+  in-case c = record { g = partnerTold c e g; case = caseNumber c }
 
-  pub described-stays : ring .e ≤ at us i
-      → record { power = ring .q; k = k; row = i; length = at len i; u = at us i; theta = at ts i; g = ring .e; case = 1 } ≡ describedOf ring len us ts k i
-  unfolding in-case caseNumber partnerTold describedOf
-  described-stays h = ap in-case (sym (case-stays (ring .e) (at us i) (at len g) h))
+  pub told-stays : e ≤ u → record { g = e; case = 1 } ≡ toldOf e len u
+  unfolding in-case caseNumber partnerTold toldOf
+  told-stays h = ap in-case (sym (case-stays e u (at len g) h))
 
-  pub described-added : at us i < ring .e → at len g ≡ zero
-      → record { power = ring .q; k = k; row = i; length = at len i; u = at us i; theta = at ts i; g = g; case = 2 } ≡ describedOf ring len us ts k i
-  unfolding in-case caseNumber partnerTold describedOf
-  described-added h z = ap in-case (sym (case-added (ring .e) (at us i) (at len g) h z))
+  pub told-added : u < e → at len g ≡ zero → record { g = g; case = 2 } ≡ toldOf e len u
+  unfolding in-case caseNumber partnerTold toldOf
+  told-added h z = ap in-case (sym (case-added e u (at len g) h z))
 
-  pub described-cancelled : at us i < ring .e → zero < at len g
-      → record { power = ring .q; k = k; row = i; length = at len i; u = at us i; theta = at ts i; g = g; case = 3 } ≡ describedOf ring len us ts k i
-  unfolding in-case caseNumber partnerTold describedOf
-  described-cancelled h z = ap in-case (sym (case-cancelled (ring .e) (at us i) (at len g) h z))
+  pub told-cancelled : u < e → zero < at len g → record { g = g; case = 3 } ≡ toldOf e len u
+  unfolding in-case caseNumber partnerTold toldOf
+  told-cancelled h z = ap in-case (sym (case-cancelled e u (at len g) h z))
 
 told-low : (c : Case) (e g : ℕ) → g ≤ e → partnerTold c e g ≤ e
 unfolding partnerTold
@@ -168,11 +165,20 @@ told-low stays e g h = omega arith
 told-low added e g h = h
 told-low cancelled e g h = h
 
+-- so that g fits a word
+pub told-g : (e : ℕ) (len : List ℕ) (u : ℕ) → toldOf e len u .g ≤ e
+unfolding toldOf
+told-g e len u = told-low (caseOf e u (at len (e - 1 - u))) e (e - 1 - u) (omega arith)
+
 number-low : (c : Case) → caseNumber c < 4
 unfolding caseNumber
 number-low stays = omega arith
 number-low added = omega arith
 number-low cancelled = omega arith
+
+told-case : (e : ℕ) (len : List ℕ) (u : ℕ) → toldOf e len u .case < 4
+unfolding toldOf
+told-case e len u = number-low (caseOf e u (at len (e - 1 - u)))
 
 -- the least that makes a record's numbers small enough for a word
 pub narrow-described : (ring : Ring) (len us ts : List ℕ) (k i : ℕ) → ring .q < 65536 → ring .e ≤ maxRows → k < maxTerms → i < ring .e → at len i ≤ k
@@ -186,8 +192,8 @@ narrow-described ring len us ts k i small few early inside short low least =
       length = omega arith;
       u = omega arith;
       theta = omega arith;
-      g = omega (arith, told-low (caseOf (ring .e) (at us i) (at len (ring .e - 1 - at us i))) (ring .e) (ring .e - 1 - at us i) (omega arith));
-      case = number-low (caseOf (ring .e) (at us i) (at len (ring .e - 1 - at us i)));
+      g = omega (arith, told-g (ring .e) len (at us i));
+      case = told-case (ring .e) len (at us i);
     }
 
 module _ (ring : Ring) (S : List ℕ) (st : Setting ring S) (k : ℕ) (len us ts : List ℕ) (ll : Lens ring S k len) (lk : Looks ring S k us ts) where
@@ -195,7 +201,7 @@ module _ (ring : Ring) (S : List ℕ) (st : Setting ring S) (k : ℕ) (len us ts
   us-low i h = omega (arith, lk .powers i h, valuation-le (ring .e) (ring .p) (d-at (ring .p) (ring .e) S i k))
 
   pub described-is : (i : ℕ) → i < ring .e → describedOf ring len us ts k i ≡ stepRecord (stepAt S (powerOf ring) k i)
-  unfolding stepAt partner describedOf
+  unfolding stepAt partner describedOf toldOf
   described-is i h =
       same-record (st .whole) refl refl (ll .sizes i h) u-is (lk .rests i h) (ap₂ (λ (c : Case) (x : ℕ). partnerTold c (ring .e) x) case-is g-is) (ap caseNumber case-is)
     where

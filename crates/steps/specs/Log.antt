@@ -10,6 +10,7 @@ use Rattle.recurrence.specs.Steps.{caseOf}
 use Rattle.recurrence.specs.Working.{Step, caseNumber, partnerTold}
 use Rattle.steps.specs.declared.Ring.{Ring}
 use Rattle.steps.specs.declared.StepRecord.{StepRecord}
+use Rattle.steps.specs.declared.Told.{Told}
 
 -- the code's record of a step, and the step of a record
 abbrev pub stepRecord : Step → StepRecord
@@ -66,18 +67,15 @@ pub record Noted (first n : ℕ) (x : ℕ → ℕ) (log log′ : List ℕ) : Typ
 abbrev pub powerOf : Ring → PrimePower
 powerOf ring = record { prime = ring .p; exponent = ring .e }
 
+-- g and the case of a row with this u, from the lengths of the rows before the step
+unfoldable pub toldOf : ℕ → List ℕ → ℕ → Told
+toldOf e len u =
+    let g = e - 1 - u in
+    let c = caseOf e u (at len g) in
+    record { g = partnerTold c e g; case = caseNumber c }
+
 -- the record of row i at step k, from the lengths, u and θ of the rows before the step
 unfoldable pub describedOf : Ring → List ℕ → List ℕ → List ℕ → ℕ → ℕ → StepRecord
 describedOf ring len us ts k i =
-    let g = ring .e - 1 - at us i in
-    let c = caseOf (ring .e) (at us i) (at len g) in
-    record {
-      power = ring .q;
-      k = k;
-      row = i;
-      length = at len i;
-      u = at us i;
-      theta = at ts i;
-      g = partnerTold c (ring .e) g;
-      case = caseNumber c;
-    }
+    let x = toldOf (ring .e) len (at us i) in
+    record { power = ring .q; k = k; row = i; length = at len i; u = at us i; theta = at ts i; g = x .g; case = x .case }

@@ -1,4 +1,4 @@
-// The steps at one prime power q = p^e (Reeds and Sloane, section 4), for q below 65,536.
+// The steps at one prime power q = p^e (Reeds and Sloane, section 4), for q below 65,536; and their records, in a log that is lent.
 //
 // Of each row only a is kept. The theorems of `recurrence` are the reason: a discrepancy needs no b (`d-of-a`), lengths follow a law in
 // which no degree occurs (`length-stays`, `length-kept`, `length-grows`), and b follows from a (`generates` of `register-right`).
@@ -11,7 +11,7 @@ ghost use Rattle.residue.specs.Reduction.{scaleOf};
 ghost use Rattle.recurrence.specs.Polynomial.{conv};
 ghost use Rattle.recurrence.specs.Working.{noStep, stepAt, stepsAt};
 ghost use Rattle.steps.specs.Sizes.{maxTerms, maxCells, maxRows, logWords};
-ghost use Rattle.steps.specs.Log.{stepRecord, packed, unpacked, Narrow, Noted, powerOf, describedOf};
+ghost use Rattle.steps.specs.Log.{stepRecord, packed, unpacked, Narrow, Noted, powerOf, toldOf, describedOf};
 ghost use Rattle.steps.specs.Run.{Below, Setting, Result};
 ghost use Rattle.steps.specs.Passes.{Clear, Added, Shape, Blank, Starting, nextAt, Planned, Stocked, Changed, Changing, Grows, Settling};
 ghost use Rattle.steps.specs.State.{Rows, Lens, Looks, State, Spare};
@@ -47,6 +47,12 @@ pub struct StepRecord {
     pub theta: u32,
     pub g: u32,
     pub case: u32,
+}
+
+// What a record tells of a row's partner: g, and the case.
+struct Told {
+    g: usize,
+    case: u32,
 }
 
 // Coefficient k of the product of a and s, modulo q, where a is zero past place l. The sum fits 64 bits, so that one division does.
@@ -104,7 +110,22 @@ fn look(
     }
 }
 
-// The record of row i at step k, by value, from what the step sees.
+// g and the case of a row with this u, from what the step sees.
+fn tell(len: &[usize; ROWS], u: usize, e: usize) -> Told
+    requires { ⌜ e ≤ maxRows ⌝ }
+    ensures { λ r. ⌜ r ≡ toldOf e (now (len .entry)) u ⌝ }
+{
+    if u < e {
+        let g = e - 1 - u;
+        if len[g] == 0 {
+            return Told { g: g, case: 2 };
+        }
+        return Told { g: g, case: 3 };
+    }
+    Told { g: e, case: 1 }
+}
+
+// The record of row i at step k, by value.
 fn describe(
     len: &[usize; ROWS],
     us: &[usize; ROWS],
@@ -117,43 +138,18 @@ fn describe(
         × ((j : ℕ) → j < ring .e → at (now us) j ≤ ring .e) ⌝ }
     ensures { λ r. ⌜ r ≡ describedOf ring (now (len .entry)) (now (us .entry)) (now (ts .entry)) k i ⌝ }
 {
-    let l = len[i] as u32;
+    let l = len[i];
     let u = us[i];
-    let t = ts[i];
-    if u < ring.e {
-        let answer = ring.e - 1 - u;
-        if len[answer] == 0 {
-            return StepRecord {
-                power: ring.q,
-                k: k as u32,
-                row: i as u32,
-                length: l,
-                u: u as u32,
-                theta: t,
-                g: answer as u32,
-                case: 2,
-            };
-        }
-        return StepRecord {
-            power: ring.q,
-            k: k as u32,
-            row: i as u32,
-            length: l,
-            u: u as u32,
-            theta: t,
-            g: answer as u32,
-            case: 3,
-        };
-    }
+    let x = tell(len, u, ring.e);
     StepRecord {
         power: ring.q,
         k: k as u32,
         row: i as u32,
-        length: l,
+        length: l as u32,
         u: u as u32,
-        theta: t,
-        g: ring.e as u32,
-        case: 1,
+        theta: ts[i],
+        g: x.g as u32,
+        case: x.case,
     }
 }
 
@@ -537,11 +533,11 @@ pub fn rows(
     let mut mult = [0u32; ROWS];
     let mut us = [0usize; ROWS];
     let mut ts = [0u32; ROWS];
-    let mut words = [0u64; 1];
+    let mut empty = [0u64; 1];
     *cur = [[0u32; CELLS]; ROWS];
     *len = [0usize; ROWS];
     start(cur, ring.p, ring.e);
-    let none = &mut words[0..0];
+    let none = &mut empty[0..0];
     let mut k: usize = 0;
     while k < n {
         step(

@@ -5,7 +5,7 @@ use mathlib.Core.List.{List, [], _∷_, _++_, map}
 use Prim.Native.Nat.{ℕ, zero, suc, _+_, _*_, _/_, _^_, _≤_, _<_}
 use native.Mathlib.Nat.{le-refl, mul-le-mul, mul-le-mul-left, mul-le-mul-right}
 use native.Mathlib.Omega.{arith}
-use lib.ListN.{length, getD, drop, length-map}
+use lib.ListN.{length, getD, drop, length-map, List·getD-append}
 use lib.Seq.{getD-drop, drop-drop, drop-at}
 use Rattle.lists.specs.Table.{at}
 use Rattle.lists.proofs.Among.{Among, here, there}
@@ -13,7 +13,7 @@ use Rattle.residue.specs.Factors.{PrimePower, value, leastPower, primePowers}
 use Rattle.residue.proofs.Congruence.{q-pos}
 use Rattle.residue.proofs.Factors.{Factored, one, more, factored, rest-pos, rest-lt}
 use Rattle.recurrence.specs.Working.{Step, noStep, stepsAt, stepsOver, sheetOf, rowsOver}
-use Rattle.recurrence.proofs.Working.{length-stepsAt, length-sheet, rows-low, rows-few, rows-more, rows-none, steps-more, getD-left}
+use Rattle.recurrence.proofs.Working.{length-stepsAt, length-sheet, rows-low, rows-few, rows-more, rows-none, steps-more}
 use Rattle.steps.specs.Sizes.{maxTerms, maxRows, logWords}
 use Rattle.steps.specs.declared.Ring.{Ring}
 use Rattle.steps.specs.Log.{stepRecord, packed, words, overlaid, Noted, powerOf}
@@ -78,7 +78,7 @@ module _ {m : ℕ} {S : List ℕ} {n base R : ℕ} {log₀ log : List ℕ} (g : 
 
     next-word : (i : ℕ) → i < n * f .exponent → wordAt (ringOf f) S n i ≡ sheetWord m S n (base + i)
     next-word i h =
-        ap (λ x. packed (stepRecord x)) (sym (getD-left (stepsAt S f n) (stepsOver S n (primePowers R′)) i noStep (omega (arith, length-stepsAt S f n)))
+        ap (λ x. packed (stepRecord x)) (sym (List·getD-append (stepsAt S f n) (stepsOver S n (primePowers R′)) noStep i (omega (arith, length-stepsAt S f n)))
         ∙ ap (λ (xs : List Step). getD xs i noStep) (sym next-left) ∙ getD-drop base (sheetOf m S n) i noStep)
 
     next-rest : drop (base + n * f .exponent) (sheetOf m S n) ≡ stepsOver S n (primePowers R′)

@@ -1,4 +1,4 @@
--- What `synthesize` gives: the definition's register, each list in full, and the linear complexity of every beginning of the terms.
+-- What `synthesize` and `trace` give: the definition's register, each list in full, and the linear complexity of every beginning of the terms.
 -- Assumes nothing.
 use mathlib.Core.List.{List}
 use Prim.Native.Nat.{ℕ, zero}

@@ -179,6 +179,6 @@ pub fn synthesize(modulus: u32, terms: &[u32; TERMS], count: usize) -> Synthesis
     requires { ⌜ (2 ≤ modulus) × (modulus < divisorsEnd) × (count ≤ maxTerms) × Below maxTerms 65536 (now terms) ⌝ }
     ensures { λ r. ⌜ r ≡ synthesisOf modulus (now (terms .entry)) count ⌝ }
 {
-    let mut none = [0u64; 1];
-    trace(modulus, terms, count, &mut none[0..0])
+    let mut empty = [0u64; 1];
+    trace(modulus, terms, count, &mut empty[0..0])
 }

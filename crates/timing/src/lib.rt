@@ -68,8 +68,8 @@ pub extern "C" fn timing_steps(
             q: f.value,
             scale: scale,
         };
-        let mut none = [0u64; 1];
-        steps::run(s, n, ring, a, lens, &mut none[0..0], 0);
+        let mut empty = [0u64; 1];
+        steps::run(s, n, ring, a, lens, &mut empty[0..0], 0);
         return true;
     }
     false

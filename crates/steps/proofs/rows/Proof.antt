@@ -31,11 +31,11 @@ start-requires c κs =
 sub-none : tie.Need-sub-none Inv-loop μ-loop
 sub-none c = omega arith
 
-part-words-start : tie.Need-part-words-start Inv-loop μ-loop
-part-words-start c = omega arith
+part-empty-start : tie.Need-part-empty-start Inv-loop μ-loop
+part-empty-start c = omega arith
 
-part-words-end : tie.Need-part-words-end Inv-loop μ-loop
-part-words-end c = omega arith
+part-empty-end : tie.Need-part-empty-end Inv-loop μ-loop
+part-empty-end c = omega arith
 
 loop-holds : tie.Need-loop-holds Inv-loop μ-loop
 loop-holds c =
@@ -82,8 +82,8 @@ rows-spec =
     μ-loop
     start-requires
     sub-none
-    part-words-start
-    part-words-end
+    part-empty-start
+    part-empty-end
     loop-holds
     step-requires
     add-k

@@ -43,11 +43,11 @@ scale-requires c κs =
 sub-run : tie.Need-sub-run
 sub-run c = search needs
 
-part-none-start : tie.Need-part-none-start
-part-none-start c = search needs
+part-empty-start : tie.Need-part-empty-start
+part-empty-start c = search needs
 
-part-none-end : tie.Need-part-none-end
-part-none-end c = search needs
+part-empty-end : tie.Need-part-empty-end
+part-empty-end c = search needs
 
 -- 128 terms at 15 rows are what a log has places for
 run-requires : tie.Need-run-requires
@@ -75,8 +75,8 @@ timing-steps-spec =
     split-requires
     scale-requires
     sub-run
-    part-none-start
-    part-none-end
+    part-empty-start
+    part-empty-end
     run-requires
     returns
     returns-2)
