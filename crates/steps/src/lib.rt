@@ -192,7 +192,8 @@ pub fn entry(log: &[u64; LOG], i: usize) -> StepRecord
     unpack(log[i])
 }
 
-// The records of all rows at step k, from a place of the log on, as far as it has places: one that has none asks for nothing.
+// The records of all rows at step k, behind those of the steps before it, which begin at a place of the log; as far as the log has places.
+// One that has none asks for nothing, and is told first: then nothing else is computed.
 fn note(
     len: &[usize; ROWS],
     us: &[usize; ROWS],
@@ -200,13 +201,18 @@ fn note(
     k: usize,
     ring: Ring,
     log: &mut [u64],
-    place: usize,
+    first: usize,
 )
-    requires { ⌜ (place + ring .e ≤ logWords) × (ring .e ≤ maxRows) × (k < maxTerms) × (ring .q < 65536) × ((j : ℕ) → j < ring .e → at (now len) j ≤ k)
-        × ((j : ℕ) → j < ring .e → at (now us) j ≤ ring .e) × ((j : ℕ) → j < ring .e → at (now ts) j ≤ ring .q) ⌝ }
-    ensures { λ _. ⌜ Noted place (ring .e) (λ (i : ℕ). packed (describedOf ring (now (len .entry)) (now (us .entry)) (now (ts .entry)) k i))
-        (now (log .entry)) (now (log .exit)) ⌝ }
+    requires { ⌜ (first + (k * ring .e + ring .e) ≤ logWords) × (ring .e ≤ maxRows) × (k < maxTerms) × (ring .q < 65536)
+        × ((j : ℕ) → j < ring .e → at (now len) j ≤ k) × ((j : ℕ) → j < ring .e → at (now us) j ≤ ring .e)
+        × ((j : ℕ) → j < ring .e → at (now ts) j ≤ ring .q) ⌝ }
+    ensures { λ _. ⌜ Noted (first + k * ring .e) (ring .e)
+        (λ (i : ℕ). packed (describedOf ring (now (len .entry)) (now (us .entry)) (now (ts .entry)) k i)) (now (log .entry)) (now (log .exit)) ⌝ }
 {
+    if log.len() == 0 {
+        return;
+    }
+    let place = first + k * ring.e;
     let mut i: usize = 0;
     while i < ring.e {
         if log.len() <= place + i {
@@ -416,17 +422,17 @@ fn step(
     k: usize,
     ring: Ring,
     log: &mut [u64],
-    place: usize,
+    first: usize,
 )
     requires { ⌜ Setting ring (now s) × (k < maxTerms) × State ring (now s) k (now cur) (now old) (now len) (now when) (now reach) (now mult)
-        × Spare (now next) (now saved) (now us) (now ts) × (place + ring .e ≤ logWords) ⌝ }
+        × Spare (now next) (now saved) (now us) (now ts) × (first + (k * ring .e + ring .e) ≤ logWords) ⌝ }
     ensures { λ _. ⌜ State ring (now (s .entry)) (suc k) (now (cur .exit)) (now (old .exit)) (now (len .exit)) (now (when .exit))
         (now (reach .exit)) (now (mult .exit))
         × Spare (now (next .exit)) (now (saved .exit)) (now (us .exit)) (now (ts .exit))
-        × Noted place (ring .e) (λ (i : ℕ). packed (stepRecord (stepAt (now (s .entry)) (powerOf ring) k i))) (now (log .entry)) (now (log .exit)) ⌝ }
+        × Noted (first + k * ring .e) (ring .e) (λ (i : ℕ). packed (stepRecord (stepAt (now (s .entry)) (powerOf ring) k i))) (now (log .entry)) (now (log .exit)) ⌝ }
 {
     look(cur, len, s, k, ring, us, ts);
-    note(len, us, ts, k, ring, log, place);
+    note(len, us, ts, k, ring, log, first);
     advance(
         cur,
         old,
@@ -486,7 +492,6 @@ pub fn run(
     let mut ts = [0u32; ROWS];
     start(&mut cur, ring.p, ring.e);
     *lens = [0u32; CELLS];
-    let mut place = first;
     let mut k: usize = 0;
     while k < n {
         step(
@@ -504,9 +509,8 @@ pub fn run(
             k,
             ring,
             log,
-            place,
+            first,
         );
-        place += ring.e;
         k += 1;
         let l = len[0];
         lens[k] = l as u32;

@@ -3,12 +3,14 @@
 use mathlib.Core.Path.{_≡_, sym}
 use Prim.Native.Nat.{zero, _≤_, _-_}
 use native.Mathlib.Numerals.{add-one}
+use native.Mathlib.Nat.{mul-le-mul}
 use native.Mathlib.Omega.{arith}
 use lib.ListN.{replicate}
 use Rattle.steps.specs.Sizes.{maxCells, maxRows}
 use Rattle.steps.specs.State.{State, Spare}
 use Rattle.steps.proofs.Passes.{state-at, zeros-shape, zeros-blank, line-blank, line-long}
 use Rattle.steps.proofs.Model.{p-up, whole-low, start-code}
+use Rattle.steps.proofs.Log.{rows-fit}
 use Rattle.steps.proofs.rows.Statement.{statement}
 use Rattle.steps.proofs.rows.Tie as tie
 
@@ -52,7 +54,7 @@ step-requires : tie.Need-step-requires Inv-loop μ-loop
 step-requires c κs =
     let z = c .before .before .before .before .before .before .before .before .before .before .before .before .before .before .before .before .before .before in
     let l = c .before .before .before .before .before .before .before .before .before .before .before .before .loop in
-    (z .pre .0, omega (arith, c .before .before .before .before .before .before .before .before .before .before .before .loop-test .taken, z .pre .1), l .inv .1, l .inv .2, omega (arith, z .pre .0 .few))
+    (z .pre .0, omega (arith, c .before .before .before .before .before .before .before .before .before .before .before .loop-test .taken, z .pre .1), l .inv .1, l .inv .2, omega (arith, rows-fit (l .k) (z .args .n) (z .args .ring .e) (c .before .before .before .before .before .before .before .before .before .before .before .loop-test .taken), mul-le-mul (z .pre .1) (z .pre .0 .few)))
 
 add-k : tie.Need-add-k Inv-loop μ-loop
 add-k c = omega (arith, c .before .before .before .before .before .before .before .before .before .before .before .before .before .before .loop-test .taken, c .before .before .before .before .before .before .before .before .before .before .before .before .before .before .before .before .before .before .before .before .before .pre .1)

@@ -1,6 +1,6 @@
 -- `steps::run` meets its contract: before step k the arrays hold the state before step k, and the log the records of the steps before it.
 -- Assumes nothing.
-use mathlib.Core.Path.{_≡_, sym, ap, _∙_}
+use mathlib.Core.Path.{_≡_, refl, sym, ap, _∙_}
 use Prim.Native.Nat.{ℕ, zero, _≤_, _<_, _+_, _-_, _*_}
 use native.Mathlib.Numerals.{add-one}
 use native.Mathlib.Omega.{arith}
@@ -18,13 +18,13 @@ use Rattle.steps.proofs.run.Statement.{statement}
 use Rattle.steps.proofs.run.Tie as tie
 
 abbrev Inv-loop : tie.InvT-loop
-Inv-loop s n ring a lens₀ log₀ first cur₀ old₀ saved₀ len₀ next₀ when₀ reach₀ mult₀ us₀ ts₀ place₀ k₀ lens log cur old saved len next when reach mult us ts place k =
+Inv-loop s n ring a lens₀ log₀ first cur₀ old₀ saved₀ len₀ next₀ when₀ reach₀ mult₀ us₀ ts₀ k₀ lens log cur old saved len next when reach mult us ts k =
     (k ≤ n) × State ring s k cur old len when reach mult × Spare next saved us ts × (length lens ≡ maxCells)
     × ((j : ℕ) → j ≤ k → at lens j ≡ L-at (ring .p) (ring .e) s zero j) × ((j : ℕ) → k < j → at lens j ≡ zero)
-    × (place ≡ first + k * ring .e) × Noted first (k * ring .e) (wordAt ring s n) log₀ log
+    × Noted first (k * ring .e) (wordAt ring s n) log₀ log
 
 abbrev μ-loop : tie.MeasureT-loop
-μ-loop s n ring a lens₀ log₀ first cur₀ old₀ saved₀ len₀ next₀ when₀ reach₀ mult₀ us₀ ts₀ place₀ k₀ lens log cur old saved len next when reach mult us ts place k =
+μ-loop s n ring a lens₀ log₀ first cur₀ old₀ saved₀ len₀ next₀ when₀ reach₀ mult₀ us₀ ts₀ k₀ lens log cur old saved len next when reach mult us ts k =
     n - k
 
 start-requires : tie.Need-start-requires Inv-loop μ-loop
@@ -47,7 +47,6 @@ loop-holds c =
       length-replicate maxCells zero,
       lens-first r (a .s .now) st (replicate maxCells zero) (line-blank maxCells zero),
       λ j h. line-blank maxCells j,
-      omega arith,
       noted-at (a .first) _ (a .log .now) (a .log .now) (let none : zero ≡ zero * r .e = omega arith in none) (noted-none (a .first) _ (a .log .now)),
     )
 
@@ -58,64 +57,56 @@ step-requires c κs =
     let test : l .k < z .args .n = c .before .before .before .before .before .before .before .before .before .before .before .loop-test .taken in
     (z .pre .0, omega arith, l .inv .1, l .inv .2, omega (arith, rows-fit (l .k) (z .args .n) (z .args .ring .e) test))
 
-add-place : tie.Need-add-place Inv-loop μ-loop
-add-place c =
-    let z = c .before .before .before .before .before .before .before .before .before .before .before .before .before .before .before .before .before .before .before .before .before in
-    let l = c .before .before .before .before .before .before .before .before .before .before .before .before .before .before .before .before .loop in
-    let test : l .k < z .args .n = c .before .before .before .before .before .before .before .before .before .before .before .before .before .before .before .loop-test .taken in
-    omega (arith, rows-fit (l .k) (z .args .n) (z .args .ring .e) test)
-
 add-k : tie.Need-add-k Inv-loop μ-loop
-add-k c = omega (arith, c .before .before .before .before .before .before .before .before .before .before .before .before .before .before .before .loop-test .taken, c .before .before .before .before .before .before .before .before .before .before .before .before .before .before .before .before .before .before .before .before .before .pre .1)
+add-k c = omega (arith, c .before .before .before .before .before .before .before .before .before .before .before .before .before .before .loop-test .taken, c .before .before .before .before .before .before .before .before .before .before .before .before .before .before .before .before .before .before .before .before .pre .1)
 
 array-read-l : tie.Need-array-read-l Inv-loop μ-loop
 array-read-l c = omega arith
 
 cast-lens : tie.Need-cast-lens Inv-loop μ-loop
 cast-lens c =
-    let z = c .before .before .before .before .before .before .before .before .before .before .before .before .before .before .before .before .before .before .before .before .before in
+    let z = c .before .before .before .before .before .before .before .before .before .before .before .before .before .before .before .before .before .before .before .before in
     let a = z .args in
     let r = a .ring in
     let st = z .pre .0 in
-    let l = c .before .before .before .before .before .before .before .before .before .before .before .before .before .before .before .before .loop in
-    let test : l .k < a .n = c .before .before .before .before .before .before .before .before .before .before .before .before .before .before .before .loop-test .taken in
+    let l = c .before .before .before .before .before .before .before .before .before .before .before .before .before .before .before .loop in
+    let test : l .k < a .n = c .before .before .before .before .before .before .before .before .before .before .before .before .before .before .loop-test .taken in
     let most : a .n ≤ maxTerms = z .pre .1 in
-    omega (arith, len-low r (a .s .now) st _ _ (c .before .before .before .step .ensures .0 .lens) zero (st .pos))
+    omega (arith, len-low r (a .s .now) st _ _ (c .before .before .step .ensures .0 .lens) zero (st .pos))
 
 mul-lens : tie.Need-mul-lens Inv-loop μ-loop
-mul-lens c = omega (arith, c .before .before .before .before .before .before .before .before .before .before .before .before .before .before .before .loop-test .taken, c .before .before .before .before .before .before .before .before .before .before .before .before .before .before .before .before .before .before .before .before .before .pre .1)
+mul-lens c = omega (arith, c .before .before .before .before .before .before .before .before .before .before .before .before .before .before .loop-test .taken, c .before .before .before .before .before .before .before .before .before .before .before .before .before .before .before .before .before .before .before .before .pre .1)
 
 element-write-lens : tie.Need-element-write-lens Inv-loop μ-loop
-element-write-lens c = omega (arith, c .before .before .before .before .before .before .before .before .before .before .before .before .before .before .before .loop-test .taken, c .before .before .before .before .before .before .before .before .before .before .before .before .before .before .before .before .before .before .before .before .before .pre .1)
+element-write-lens c = omega (arith, c .before .before .before .before .before .before .before .before .before .before .before .before .before .before .loop-test .taken, c .before .before .before .before .before .before .before .before .before .before .before .before .before .before .before .before .before .before .before .before .pre .1)
 
 loop-less : tie.Need-loop-less Inv-loop μ-loop
 loop-less c = omega arith
 
 loop-again : tie.Need-loop-again Inv-loop μ-loop
 loop-again c =
-    let z = c .before .before .before .before .before .before .before .before .before .before .before .before .before .before .before .before .before .before .before .before .before in
+    let z = c .before .before .before .before .before .before .before .before .before .before .before .before .before .before .before .before .before .before .before .before in
     let a = z .args in
     let r = a .ring in
     let st = z .pre .0 in
-    let l = c .before .before .before .before .before .before .before .before .before .before .before .before .before .before .before .before .loop in
-    let test : l .k < a .n = c .before .before .before .before .before .before .before .before .before .before .before .before .before .before .before .loop-test .taken in
+    let l = c .before .before .before .before .before .before .before .before .before .before .before .before .before .before .before .loop in
+    let test : l .k < a .n = c .before .before .before .before .before .before .before .before .before .before .before .before .before .before .loop-test .taken in
     let most : a .n ≤ maxTerms = z .pre .1 in
-    let v = c .before .before .before .step .ensures in (
+    let v = c .before .before .step .ensures in (
       omega arith,
       state-at (sym (add-one (l .k))) (v .0),
       v .1,
       length-set (l .lens) (l .k + 1) _ ∙ l .inv .3,
       lens-next r (a .s .now) st (l .lens) (l .k) _ (l .inv .3) (omega arith) (l .inv .4) (v .0 .lens .sizes zero (st .pos)),
       λ j h. getD-set-other (l .lens) (l .k + 1) j _ zero (λ e. omega arith) ∙ l .inv .5 j (omega arith),
-      omega arith,
-      noted-step r (a .s .now) (a .n) (l .k) (a .first) (l .place) (a .log .now) (l .log) _ test (l .inv .6) (l .inv .7) (v .2),
+      noted-step r (a .s .now) (a .n) (l .k) (a .first) _ (a .log .now) (l .log) _ test refl (l .inv .6) (v .2),
     )
 
 array-copy-out-a : tie.Need-array-copy-out-a Inv-loop μ-loop
 array-copy-out-a c = omega arith
 
 same-length : tie.Need-same-length Inv-loop μ-loop
-same-length c = c .before .before .loop .inv .7 .long
+same-length c = c .before .before .loop .inv .6 .long
 
 returns : tie.Need-returns Inv-loop μ-loop
 returns c =
@@ -132,7 +123,7 @@ returns c =
         sizes = λ j h. l .inv .4 j (omega arith);
         others = λ j h. l .inv .5 j (omega arith);
       },
-      noted-at (a .first) _ (a .log .now) (l .log) (ap (λ (j : ℕ). j * a .ring .e) same) (l .inv .7),
+      noted-at (a .first) _ (a .log .now) (l .log) (ap (λ (j : ℕ). j * a .ring .e) same) (l .inv .6),
     )
 
 pub run-spec : {M : Type 1} → statement M
@@ -144,7 +135,6 @@ run-spec =
     start-requires
     loop-holds
     step-requires
-    add-place
     add-k
     array-read-l
     cast-lens

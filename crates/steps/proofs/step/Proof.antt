@@ -1,5 +1,6 @@
 -- `steps::step` meets its contract.
 -- Assumes nothing.
+use Prim.Native.Nat.{_+_, _*_}
 use borrow.Author.Needs.{needs}
 use Rattle.steps.proofs.Model.{q-up, p-up, whole-low, len-low, row-low, ts-low, stocked-code, grows-code, step-code}
 use Rattle.steps.proofs.Log.{us-low, noted-described}
@@ -70,7 +71,7 @@ returns c =
     let se = c .settle .ensures in (
       step-code (a .ring) (a .s .now) st (a .k) (a .cur .now) (a .old .now) (a .len .now) (a .when .now) (a .reach .now) (a .mult .now) _ _ _ _ _ _ _ _ _ _ s (lk .0) (ad .0) (ad .1) se,
       record { long-next = ad .0 .long; shape-saved = ad .0 .shape; long-us = lk .1; long-ts = lk .2 },
-      noted-described (a .ring) (a .s .now) st (a .k) (a .len .now) _ _ (s .lens) (lk .0) (a .place) _ _ (c .before .before .before .before .before .before .before .before .before .before .before .before .before .before .before .before .before .before .before .before .before .before .before .note .ensures),
+      noted-described (a .ring) (a .s .now) st (a .k) (a .len .now) _ _ (s .lens) (lk .0) (a .first + a .k * a .ring .e) _ _ (c .before .before .before .before .before .before .before .before .before .before .before .before .before .before .before .before .before .before .before .before .before .before .before .note .ensures),
     )
 
 pub step-spec : {M : Type 1} → statement M
