@@ -2,7 +2,8 @@
 // NTL and FLINT find the minimal polynomial of 128 terms modulo a prime; the C versions find the whole register and the lengths.
 // Ours are calls with a full promise on every input, and each makes its checks: the register and the steps alone by crates/timing, records
 // and looking up by the C interface. The register is the public call: unlike the C versions it also checks the sequence and writes a and b
-// as cells. The steps alone start from the modulus: they include its prime power and a check of the terms.
+// as cells. The steps alone start from the modulus: they include its prime power and a check of the terms. The trace is the register with
+// its working: every record is read, and their numbers are added up.
 #include <NTL/lzz_pX.h>
 #include <diverthrone.h>
 #include <flint/flint.h>
@@ -20,6 +21,7 @@
 extern "C" {
 bool timing_steps(uint32_t m, const uint32_t *s, size_t n, uint32_t *a, uint32_t *lens);
 uint32_t timing_register(uint32_t m, uint32_t count, const uint32_t *terms, uint8_t *a, size_t a_len, uint8_t *b, size_t b_len);
+uint64_t timing_trace(uint32_t m, uint32_t count, const uint32_t *terms, uint8_t *a, size_t a_len, uint8_t *b, size_t b_len);
 void plain_register(uint32_t m, const uint32_t *s, int n, uint32_t *a, uint32_t *b, uint32_t *lens);
 void tricks_register(uint32_t m, const uint32_t *s, int n, uint32_t *a, uint32_t *b, uint32_t *lens);
 }
@@ -81,6 +83,8 @@ static void prepare(uint32_t m, int n) {
 
 static uint32_t reg(uint32_t m, int n, int j) { return timing_register(m, (uint32_t)n, terms[j], a_cells, sizeof a_cells, b_cells, sizeof b_cells); }
 
+static uint64_t trace(uint32_t m, int n, int j) { return timing_trace(m, (uint32_t)n, terms[j], a_cells, sizeof a_cells, b_cells, sizeof b_cells); }
+
 // The cells hold these coefficients.
 static bool holds(const uint8_t *cells, const uint32_t *x, int count) {
     for (int i = 0; i < count; i++)
@@ -104,6 +108,18 @@ static bool steps_agree(uint32_t p, int n) {
     for (int j = 0; j < BATCH; j++) {
         plain_register(p, terms[j], n, a, b, lens);
         if (!timing_steps(p, terms[j], n, a2, lens2) || memcmp(a, a2, sizeof a) || memcmp(lens, lens2, sizeof lens)) return false;
+    }
+    return true;
+}
+
+// A trace writes what the register writes. Its records have their prime power, which is at least 2, so that the sum is no less than twice
+// their number.
+static bool trace_agrees(uint32_t m, int n) {
+    for (int j = 0; j < BATCH; j++) {
+        memset(a_cells, 255, sizeof a_cells), memset(b_cells, 255, sizeof b_cells);
+        uint64_t sum = trace(m, n, j);
+        plain_register(m, terms[j], n, a, b, lens);
+        if (sum < 2u * (uint32_t)n || !holds(a_cells, a, 129) || !holds(b_cells, b, 128)) return false;
     }
     return true;
 }
@@ -152,6 +168,16 @@ static void composites() {
     }
 }
 
+static void working() {
+    printf("any moduli, 128 random terms: trace / register, us for a trace, us for a register\n");
+    for (uint32_t m : {2u, 7u, 97u, 4093u, 2048u, 2187u, 3125u, 4095u, 2310u}) {
+        prepare(m, 128);
+        if (!trace_agrees(m, 128)) printf("%u: DIFFER\n", m);
+        auto t = measure({{"register", [=](int j) { reg(m, 128, j); }}, {"trace", [=](int j) { trace(m, 128, j); }}}, 601);
+        printf("%6u  %.2f  %.1f  %.1f\n", m, t[1] / t[0], t[1], t[0]);
+    }
+}
+
 static void growth() {
     printf("growth with n modulo 4093 and 2048: us for a register of 16, 32, 64, 128 terms\n");
     for (uint32_t m : {4093u, 2048u}) {
@@ -188,6 +214,7 @@ static void look_up() {
 int main() {
     primes();
     composites();
+    working();
     growth();
     look_up();
 }
