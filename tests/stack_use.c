@@ -1,6 +1,6 @@
-/* How much stack the calls of the C interface use: each runs in a thread of its own on a painted stack, and the deepest byte that lost its
- * paint counts, from the frame of the caller down. Usage: stack_use [LIMIT]; exit 1 if a call used more than LIMIT bytes or did not end as
- * it should. */
+/* How much stack the calls of the C interface use, and the register and its trace by the entry points of crates/timing: each runs in a thread
+ * of its own on a painted stack, and the deepest byte that lost its paint counts, from the frame of the caller down. Usage: stack_use
+ * [LIMIT]; exit 1 if a call used more than LIMIT bytes or did not end as it should. */
 #define _DEFAULT_SOURCE
 #include "diverthrone.h"
 
@@ -11,12 +11,16 @@
 #include <sys/mman.h>
 
 enum { TERMS = 128, STACK = 1 << 17, PAINT = 0xC3 };
-enum { NOTHING, VERIFY, GENERATE, SYNTHESIZE, MADE, FOUND, KINDS };
+enum { NOTHING, VERIFY, GENERATE, SYNTHESIZE, MADE, FOUND, REGISTER, TRACE, KINDS };
 
-static const char *const names[KINDS] = {"no call", "verify", "generate", "synthesize", "look_up made", "look_up found"};
+uint32_t timing_register(uint32_t m, uint32_t count, const uint32_t *terms, uint8_t *a, size_t a_len, uint8_t *b, size_t b_len);
+uint64_t timing_trace(uint32_t m, uint32_t count, const uint32_t *terms, uint8_t *a, size_t a_len, uint8_t *b, size_t b_len);
+
+static const char *const names[KINDS] = {"no call", "verify", "generate", "synthesize", "look_up made", "look_up found", "register", "trace"};
 static uint8_t *stack, *caller;
 static uint8_t query[DIVERTHRONE_QUERY_BYTES], record[DIVERTHRONE_RECORD_BYTES], shelf[DIVERTHRONE_RECORD_BYTES], cells[2 * TERMS];
-static uint32_t modulus;
+static uint8_t a_cells[DIVERTHRONE_A_BYTES], b_cells[DIVERTHRONE_B_BYTES];
+static uint32_t modulus, terms[TERMS];
 static uint64_t state = 1;
 
 static uint32_t below(uint32_t n) {
@@ -38,6 +42,8 @@ static uint64_t enter(int kind) {
     case SYNTHESIZE: return diverthrone_synthesize(query, sizeof query, record, sizeof record);
     case MADE: return diverthrone_look_up(query, sizeof query, shelf, 0, record, sizeof record);
     case FOUND: return diverthrone_look_up(query, sizeof query, shelf, sizeof shelf, record, sizeof record);
+    case REGISTER: return timing_register(modulus, TERMS, terms, a_cells, sizeof a_cells, b_cells, sizeof b_cells) != l;
+    case TRACE: return timing_trace(modulus, TERMS, terms, a_cells, sizeof a_cells, b_cells, sizeof b_cells) == 0;
     default: return 0;
     }
 }
@@ -77,7 +83,8 @@ static void make_query(int shape) {
     put(query, 1, TERMS);
     for (size_t i = 0; i < TERMS; i++) {
         uint32_t z = (x + y) % modulus;
-        put(query, 2 + i, shape == 0 ? below(modulus) : shape == 1 ? z : i == TERMS - 1);
+        terms[i] = shape == 0 ? below(modulus) : shape == 1 ? z : i == TERMS - 1;
+        put(query, 2 + i, terms[i]);
         x = y, y = z;
     }
 }
