@@ -6,7 +6,7 @@ use Prim.Native.Nat.{ℕ, zero, suc, _%_, _^_, _≤_, _<_}
 use native.Mathlib.Nat.{le-antisymm, mod-eq-of-lt, pow-zero}
 use native.Mathlib.Omega.{arith}
 use lib.ListN.{length}
-use Rattle.lists.specs.Table.{at, tabulate, largest}
+use Rattle.lists.specs.Table.{at, largest}
 use Rattle.lists.proofs.Table.{at-tabulate-all}
 use Rattle.lists.proofs.Among.{Among, map-map, largest-most, largest-least}
 use Rattle.residue.specs.Congruence.{Cong}

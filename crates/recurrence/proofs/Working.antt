@@ -7,7 +7,7 @@ use Prim.Native.Nat.{ℕ, zero, suc, _+_, _*_, _-_, _/_, _^_, _≤_, _<_}
 use native.Mathlib.Nat.{pos-of-ne-zero, mod-lt, pow-zero, pow-le-pow-left, pow-le-pow-right, mul-le-mul-left, mul-le-mul-right}
 use native.Mathlib.Decide.{decLe}
 use native.Mathlib.Omega.{arith}
-use lib.ListN.{length, getD, drop, length-append, List·getD-append}
+use lib.ListN.{length, getD, length-append, List·getD-append}
 use lib.Pow.{pow-add}
 use lib.Seq.{drop-at, getD-append-add}
 use borrow.Author.Tests.{lt-ltb, le-ltb}

@@ -2,12 +2,12 @@
 -- Assumes nothing.
 use mathlib.Core.Path.{_≡_, refl, sym, ap, ap₂, subst, _∙_}
 use mathlib.Core.Bool.{Bool, true, false, not}
-use mathlib.Core.List.{List, [], _∷_, _++_, map, append-assoc}
+use mathlib.Core.List.{List, [], _∷_, _++_, append-assoc}
 use Prim.Native.Nat.{ℕ, zero, suc, _≤_, _<_}
 use native.Mathlib.Nat.{mul-le-mul}
 use native.Mathlib.Omega.{arith}
 use lib.Dec.{leb, eqb}
-use lib.ListN.{length, getD, set, drop, List·getD-append, replicate, length-map, length-append, length-drop, length-replicate}
+use lib.ListN.{length, set, drop, List·getD-append, replicate, length-map, length-append, length-drop, length-replicate}
 use lib.Seq.{drop-cons, set-at}
 use borrow.Author.Tests.{leb-true}
 use Rattle.lists.specs.Choice.{pick}

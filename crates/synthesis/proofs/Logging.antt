@@ -1,14 +1,13 @@
 -- The loops over the prime powers for a sheet: how many rows there are, and which words are in the log so far.
 -- Assumes nothing.
 use mathlib.Core.Path.{_≡_, refl, sym, ap, _∙_, subst}
-use mathlib.Core.List.{List, [], _∷_, _++_, map}
-use Prim.Native.Nat.{ℕ, zero, suc, _+_, _*_, _/_, _^_, _≤_, _<_}
+use mathlib.Core.List.{List, [], _∷_, _++_}
+use Prim.Native.Nat.{ℕ, zero, suc, _+_, _*_, _/_, _≤_, _<_}
 use native.Mathlib.Nat.{le-refl, mul-le-mul, mul-le-mul-left, mul-le-mul-right}
 use native.Mathlib.Omega.{arith}
 use lib.ListN.{length, getD, drop, length-map, List·getD-append}
 use lib.Seq.{getD-drop, drop-drop, drop-at}
 use Rattle.lists.specs.Table.{at}
-use Rattle.lists.proofs.Among.{Among, here, there}
 use Rattle.residue.specs.Factors.{PrimePower, value, leastPower, primePowers}
 use Rattle.residue.proofs.Congruence.{q-pos}
 use Rattle.residue.proofs.Factors.{Factored, one, more, factored, rest-pos, rest-lt}
@@ -16,7 +15,7 @@ use Rattle.recurrence.specs.Working.{Step, noStep, stepsAt, stepsOver, sheetOf,
 use Rattle.recurrence.proofs.Working.{length-stepsAt, length-sheet, rows-low, rows-few, rows-more, rows-none, steps-more}
 use Rattle.steps.specs.Sizes.{maxTerms, maxRows, logWords}
 use Rattle.steps.specs.declared.Ring.{Ring}
-use Rattle.steps.specs.Log.{stepRecord, packed, words, overlaid, Noted, powerOf}
+use Rattle.steps.specs.Log.{stepRecord, packed, words, overlaid, Noted}
 use Rattle.steps.proofs.Log.{noted-none, noted-more, wordAt, overlaid-is, Read, read-append, read-steps}
 use Rattle.synthesis.proofs.Gathering.{ringOf}
 

@@ -3,7 +3,6 @@
 use mathlib.Core.Path.{_≡_, sym, subst, ap, _∙_}
 use Prim.Native.Nat.{ℕ, _+_, _-_, _*_, _≤_, _<_}
 use native.Mathlib.Omega.{arith}
-use borrow.Author.Needs.{needs}
 use Rattle.steps.specs.Log.{packed, Narrow, Noted, describedOf}
 use Rattle.steps.proofs.Log.{noted-none, noted-next, noted-at, noted-all, narrow-described}
 use Rattle.steps.proofs.note.Statement.{statement}
