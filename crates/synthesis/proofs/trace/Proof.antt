@@ -17,7 +17,7 @@ use Rattle.synthesis.proofs.trace.Tie as tie
 gather-requires : tie.Need-gather-requires
 gather-requires c κs =
     let z = c .before .before .before .before in
-    (z .pre .0, z .pre .1, z .pre .2, z .pre .3, length-replicate maxCells zero, λ i h. omega (arith, line-blank maxCells i), length-replicate maxCells zero, λ i h. omega (arith, line-blank maxCells i))
+    (z .pre .0, z .pre .1, omega arith, z .pre .3, length-replicate maxCells zero, λ i h. omega (arith, line-blank maxCells i), length-replicate maxCells zero, λ i h. omega (arith, line-blank maxCells i))
 
 mul-length : tie.Need-mul-length
 mul-length c = search needs
