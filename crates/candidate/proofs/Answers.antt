@@ -7,6 +7,7 @@ use Prim.Native.Nat.{ℕ, _/_, _%_}
 use lib.Dec.{ltb, eqb}
 use lib.ListN.{length}
 use Rattle.lists.specs.Choice.{pick}
+use Rattle.lists.specs.Table.{at}
 use Rattle.recurrence.specs.Running.{firstDifference}
 use Rattle.sequence.specs.declared.Sequence.{Sequence}
 use Rattle.sequence.specs.declared.Refusal.the-variants as R
@@ -18,7 +19,19 @@ use Rattle.sequence.specs.Rules.{outside, sequenceOf, checkOf, queryRefusals}
 use Rattle.sequence.proofs.Answers.{orRefused, query-told}
 use Rattle.candidate.specs.declared.Verdict.{Verdict}
 use Rattle.candidate.specs.declared.Verdict.the-variants as W
-use Rattle.candidate.specs.Rules.{aCells, bCells, flawOf, isFine, verdictOf, verdictAnswer, judgeOf, orElse, verifyOf, verifyAnswer, generateOf, generateAnswer}
+use Rattle.candidate.specs.Rules.{aCells, bCells, fits, flawBy, flawOf, candidateRefusals, verdictOf, verdictAnswer, judgeOf, orElse, verifyOf, verifyAnswer, generateOf, generateAnswer}
+
+-- the refusals of a candidate, by their tests
+pub candidate-told :
+    (m l : ℕ) (a b : List ℕ) (x : Answer) → orRefused (flawOf m l a b) x ≡ firstOf (candidateRefusals m l a b) x
+unfolding flawOf firstOf
+candidate-told m l a b x = go (ltb maxTerms l) (not (fits m l a b)) (not (eqb (at a 0) 1))
+  where
+    go : (p q r : Bool) → orRefused (flawBy p q r) x ≡ pick p (refused 25) (pick q (refused 6) (pick r (refused 26) x))
+    go true q r = refl
+    go false true r = refl
+    go false false true = refl
+    go false false false = refl
 
 -- Each law takes the equation of a reply, and what is promised beside it, and adds the answer: the whole promise of the call.
 pub verify-told : (query a b : List ℕ) (l : ℕ) {r : Verdict} → r ≡ verifyOf query a b l → (r ≡ verifyOf query a b l) × (verdictAnswer r ≡ verifyAnswer query a b l)
@@ -29,8 +42,8 @@ verify-told query a b l e =
     s : Sequence
     s = sequenceOf query
 
-    fine : Bool
-    fine = isFine (flawOf (s .modulus) l (aCells a) (bCells b))
+    flaw : Outcome
+    flaw = flawOf (s .modulus) l (aCells a) (bCells b)
 
     verdict : Verdict
     verdict = verdictOf (s .count) (firstDifference (s .modulus) (s .terms) (aCells a) (bCells b) (s .count))
@@ -39,19 +52,19 @@ verify-told query a b l e =
     v = verdictAnswer verdict
 
     rest : List (Bool × Answer)
-    rest = (not fine, refused 6) ∷ []
+    rest = candidateRefusals (s .modulus) l (aCells a) (bCells b)
 
-    judged : (t : Bool) → verdictAnswer (pick t verdict (W.Refused R.Candidate)) ≡ pick (not t) (refused 6) v
-    judged true = refl
-    judged false = refl
+    judged : (o : Outcome) → verdictAnswer (orElse o verdict) ≡ orRefused o v
+    judged Done = refl
+    judged (Refused r) = refl
 
-    after : (o : Outcome) → verdictAnswer (orElse o (pick fine verdict (W.Refused R.Candidate))) ≡ orRefused o (firstOf rest v)
-    after Done = judged fine
+    after : (o : Outcome) → verdictAnswer (orElse o (orElse flaw verdict)) ≡ orRefused o (firstOf rest v)
+    after Done = judged flaw ∙ candidate-told (s .modulus) l (aCells a) (bCells b) v
     after (Refused r) = refl
 
     go :
         (x y : Bool) → orRefused (checkOf query) (firstOf rest v) ≡ firstOf (queryRefusals query ++ rest) v
-        → verdictAnswer (pick x (pick y (orElse (checkOf query) (pick fine verdict (W.Refused R.Candidate))) (W.Refused R.Buffer)) (W.Refused R.Buffer))
+        → verdictAnswer (pick x (pick y (orElse (checkOf query) (orElse flaw verdict)) (W.Refused R.Buffer)) (W.Refused R.Buffer))
         ≡ pick (not x) (refused 5) (pick (not y) (refused 5) (firstOf (queryRefusals query ++ rest) v))
     go false y h = refl
     go true false h = refl
@@ -62,16 +75,25 @@ pub generate-told :
     → (r ≡ generateOf m a b l cells) × (A × (outcomeAnswer r ≡ generateAnswer m a b l cells))
 unfolding generateOf generateAnswer firstOf
 generate-told m a b l cells e x =
-    (e, (x, ap outcomeAnswer e ∙ go (eqb (length a) aBytes) (eqb (length b) bBytes) (eqb (length cells % 2) 0) (outside m) (ltb maxTerms (length cells / 2)) (isFine (flawOf m l (aCells a) (bCells b)))))
+    (e, (x, ap outcomeAnswer e ∙ go (eqb (length a) aBytes) (eqb (length b) bBytes) (eqb (length cells % 2) 0) (outside m) (ltb maxTerms (length cells / 2))))
   where
+    flaw : Outcome
+    flaw = flawOf m l (aCells a) (bCells b)
+
+    rest : List (Bool × Answer)
+    rest = candidateRefusals m l (aCells a) (bCells b)
+
+    found : (o : Outcome) → outcomeAnswer o ≡ orRefused o (granted [])
+    found Done = refl
+    found (Refused r) = refl
+
     go :
-        (p q r s t u : Bool)
-        → outcomeAnswer (pick p (pick q (pick r (pick s (Refused R.Modulus) (pick t (Refused R.Count) (pick u Done (Refused R.Candidate)))) (Refused R.Buffer)) (Refused R.Buffer)) (Refused R.Buffer))
-        ≡ pick (not p) (refused 5) (pick (not q) (refused 5) (pick (not r) (refused 5) (pick s (refused 1) (pick t (refused 2) (pick (not u) (refused 6) (granted []))))))
-    go false q r s t u = refl
-    go true false r s t u = refl
-    go true true false s t u = refl
-    go true true true true t u = refl
-    go true true true false true u = refl
-    go true true true false false false = refl
-    go true true true false false true = refl
+        (p q r s t : Bool)
+        → outcomeAnswer (pick p (pick q (pick r (pick s (Refused R.Modulus) (pick t (Refused R.Count) flaw)) (Refused R.Buffer)) (Refused R.Buffer)) (Refused R.Buffer))
+        ≡ pick (not p) (refused 5) (pick (not q) (refused 5) (pick (not r) (refused 5) (pick s (refused 1) (pick t (refused 2) (firstOf rest (granted []))))))
+    go false q r s t = refl
+    go true false r s t = refl
+    go true true false s t = refl
+    go true true true true t = refl
+    go true true true false true = refl
+    go true true true false false = found flaw ∙ candidate-told m l (aCells a) (bCells b) (granted [])

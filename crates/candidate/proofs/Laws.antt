@@ -1,4 +1,4 @@
--- Laws of candidates: what is well formed has no flaw, what generates the terms passes, and what the loops of a test and of a run know.
+-- Laws of candidates: what each refusal says of one, what generates the terms passes, and what the loops of a test and of a run know.
 -- Assumes nothing.
 use mathlib.Core.Path.{_≡_, refl, sym, ap, ap₂, _∙_}
 use mathlib.Core.Bool.{Bool, true, false, not}
@@ -10,10 +10,10 @@ use native.Mathlib.Omega.{arith}
 use lib.Dec.{ltb, eqb}
 use lib.ListN.{length}
 use borrow.Author.Tests.{ltb-true, ltb-false, eqb-true, lt-ltb, le-ltb, eq-eqb, ne-eqb}
-use Rattle.lists.specs.Choice.{pick}
+use Rattle.lists.specs.Choice.{both}
 use Rattle.lists.specs.Table.{at}
 use Rattle.lists.specs.Sum.{sumTo}
-use Rattle.lists.proofs.Search.{false-true, all-true, all-at, none-first}
+use Rattle.lists.proofs.Search.{false-true, both-left, both-right, both-true, all-true, all-at, none-first}
 use Rattle.lists.proofs.Sum.{sumTo-more}
 use Rattle.residue.specs.Congruence.{neg}
 use Rattle.residue.specs.Reduction.{two48}
@@ -23,57 +23,68 @@ use Rattle.recurrence.specs.Polynomial.{conv}
 use Rattle.recurrence.specs.Running.{cell, generated, firstDifference}
 use Rattle.recurrence.proofs.Series.{summand, conv-sum, conv-comm}
 use Rattle.recurrence.proofs.Running.{generated-length, generated-at, cell-same, cell-lt}
+use Rattle.sequence.specs.declared.Refusal.the-variants as R
+use Rattle.sequence.specs.declared.Outcome.{Outcome}
+use Rattle.sequence.specs.declared.Outcome.the-variants.{Done, Refused}
 use Rattle.sequence.specs.Limits.{maxCells, maxTerms}
 use Rattle.sequence.specs.Rules.{zeroFrom}
-use Rattle.sequence.proofs.Laws.{zero-from, zero-at}
-use Rattle.candidate.specs.declared.Flaw.the-variants as F
-use Rattle.candidate.specs.Rules.{allBelow, flawOf, isFine}
+use Rattle.sequence.proofs.Laws.{zero-from, zero-at, refused-done}
+use Rattle.candidate.specs.Rules.{allBelow, fits, flawBy, flawOf, Fits, IsFine}
 
--- A well-formed candidate of length l modulo m.
-pub record IsFine (m l : ℕ) (a b : List ℕ) : Type 0 where
-  pub short : l ≤ maxTerms
-  pub below-a : (i : ℕ) → i < maxCells → at a i < m
-  pub below-b : (i : ℕ) → i < maxTerms → at b i < m
-  pub past-a : (i : ℕ) → l < i → i < maxCells → at a i ≡ zero
-  pub past-b : (i : ℕ) → l ≤ i → i < maxTerms → at b i ≡ zero
-  pub lead : at a 0 ≡ 1
+-- ---- what is wrong with a candidate
 
-pub of-fine : (m l : ℕ) (a b : List ℕ) → IsFine m l a b → flawOf m l a b ≡ F.Fine
+pub of-fits : (m l : ℕ) (a b : List ℕ) → Fits m l a b → fits m l a b ≡ true
+of-fits m l a b f =
+    both-true (all-true maxCells (λ i. ltb (at a i) m) (λ i h. lt-ltb (at a i) m (f .below-a i h)))
+    (both-true (all-true maxTerms (λ i. ltb (at b i) m) (λ i h. lt-ltb (at b i) m (f .below-b i h)))
+    (both-true (zero-from (l + 1) maxCells a (λ i h k. f .past-a i (omega arith) k))
+    (zero-from l maxTerms b (f .past-b))))
+
+pub fits-of : (m l : ℕ) (a b : List ℕ) → fits m l a b ≡ true → Fits m l a b
+fits-of m l a b h =
+    record {
+      below-a = λ i k. ltb-true _ _ (all-at maxCells _ (both-left _ _ h) i k);
+      below-b = λ i k. ltb-true _ _ (all-at maxTerms _ (both-left _ _ below) i k);
+      past-a = λ i k n. zero-at (l + 1) maxCells a (both-left _ _ past) i (omega arith) n;
+      past-b = zero-at l maxTerms b (both-right (zeroFrom (l + 1) maxCells a) _ past);
+    }
+  where
+    below : both (allBelow m maxTerms b) (both (zeroFrom (l + 1) maxCells a) (zeroFrom l maxTerms b)) ≡ true
+    below = both-right (allBelow m maxCells a) _ h
+
+    past : both (zeroFrom (l + 1) maxCells a) (zeroFrom l maxTerms b) ≡ true
+    past = both-right (allBelow m maxTerms b) _ below
+
+-- each of the three refusals with its condition, or none of them
+pub data Found (m l : ℕ) (a b : List ℕ) (o : Outcome) : Type 0 where
+  long : maxTerms < l → o ≡ Refused R.TooLong → Found m l a b o
+  unfit : l ≤ maxTerms → (Fits m l a b → ⊥) → o ≡ Refused R.Coefficient → Found m l a b o
+  led : l ≤ maxTerms → Fits m l a b → (at a 0 ≡ 1 → ⊥) → o ≡ Refused R.Lead → Found m l a b o
+  fine : IsFine m l a b → o ≡ Done → Found m l a b o
+
+pub found : (m l : ℕ) (a b : List ℕ) → Found m l a b (flawOf m l a b)
 unfolding flawOf
-of-fine m l a b f =
-    rw (
-      le-ltb maxTerms l (f .short),
-      all-true maxCells (λ i. ltb (at a i) m) (λ i h. lt-ltb (at a i) m (f .below-a i h)),
-      all-true maxTerms (λ i. ltb (at b i) m) (λ i h. lt-ltb (at b i) m (f .below-b i h)),
-      zero-from (l + 1) maxCells a (λ i h k. f .past-a i (omega arith) k),
-      zero-from l maxTerms b (f .past-b),
-      eq-eqb (at a 0) 1 (f .lead),
-    )
+found m l a b = go (ltb maxTerms l) (fits m l a b) (eqb (at a 0) 1) refl refl refl
+  where
+    go : (x y z : Bool) → ltb maxTerms l ≡ x → fits m l a b ≡ y → eqb (at a 0) 1 ≡ z → Found m l a b (flawBy x (not y) (not z))
+    go true y z x' y' z' = long (ltb-true _ _ x') refl
+    go false false z x' y' z' = unfit (ltb-false _ _ x') (λ f. false-true (sym y' ∙ of-fits m l a b f)) refl
+    go false true false x' y' z' = led (ltb-false _ _ x') (fits-of m l a b y') (λ e. false-true (sym z' ∙ eq-eqb _ _ e)) refl
+    go false true true x' y' z' = fine (record { short = ltb-false _ _ x'; coefficients = fits-of m l a b y'; lead = eqb-true _ _ z' }) refl
+
+pub of-fine : (m l : ℕ) (a b : List ℕ) → IsFine m l a b → flawOf m l a b ≡ Done
+unfolding flawOf
+of-fine m l a b f = rw (le-ltb maxTerms l (f .short), of-fits m l a b (f .coefficients), eq-eqb (at a 0) 1 (f .lead))
 
 -- nothing wrong was found with it
-pub fine-of : (m l : ℕ) (a b : List ℕ) → isFine (flawOf m l a b) ≡ true → IsFine m l a b
-unfolding flawOf
-fine-of m l a b h =
-    go (ltb maxTerms l) (allBelow m maxCells a) (allBelow m maxTerms b) (zeroFrom (l + 1) maxCells a) (zeroFrom l maxTerms b) (eqb (at a 0) 1) refl refl refl refl refl refl h
+pub fine-of : (m l : ℕ) (a b : List ℕ) → flawOf m l a b ≡ Done → IsFine m l a b
+fine-of m l a b h = go (found m l a b)
   where
-    go :
-        (s x y u v w : Bool) → ltb maxTerms l ≡ s → allBelow m maxCells a ≡ x → allBelow m maxTerms b ≡ y → zeroFrom (l + 1) maxCells a ≡ u → zeroFrom l maxTerms b ≡ v → eqb (at a 0) 1 ≡ w
-        → isFine (pick s F.TooLong (pick x (pick y (pick u (pick v (pick w F.Fine F.Lead) F.Coefficient) F.Coefficient) F.Coefficient) F.Coefficient)) ≡ true → IsFine m l a b
-    go true x y u v w s' x' y' u' v' w' h = false-true h
-    go false false y u v w s' x' y' u' v' w' h = false-true h
-    go false true false u v w s' x' y' u' v' w' h = false-true h
-    go false true true false v w s' x' y' u' v' w' h = false-true h
-    go false true true true false w s' x' y' u' v' w' h = false-true h
-    go false true true true true false s' x' y' u' v' w' h = false-true h
-    go false true true true true true s' x' y' u' v' w' h =
-        record {
-          short = ltb-false _ _ s';
-          below-a = λ i k. ltb-true _ _ (all-at maxCells _ x' i k);
-          below-b = λ i k. ltb-true _ _ (all-at maxTerms _ y' i k);
-          past-a = λ i k n. zero-at (l + 1) maxCells a u' i (omega arith) n;
-          past-b = zero-at l maxTerms b v';
-          lead = eqb-true _ _ w';
-        }
+    go : Found m l a b (flawOf m l a b) → IsFine m l a b
+    go (long x e) = refused-done (sym e ∙ h)
+    go (unfit x y e) = refused-done (sym e ∙ h)
+    go (led x y z e) = refused-done (sym e ∙ h)
+    go (fine f e) = f
 
 -- ---- the loops that sum products
 

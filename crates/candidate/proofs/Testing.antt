@@ -21,9 +21,8 @@ use Rattle.sequence.specs.declared.Outcome.the-variants.{Done}
 use Rattle.sequence.specs.Limits.{maxModulus, maxTerms, maxCells, aBytes, bBytes}
 use Rattle.sequence.specs.Rules.{sequenceOf, checkOf, IsSound}
 use Rattle.candidate.specs.declared.Verdict.the-variants.{Yes, No}
-use Rattle.candidate.specs.declared.Flaw.the-variants.{Fine}
-use Rattle.candidate.specs.Rules.{aCells, bCells, flawOf, isFine, verdictOf, judgeOf, verifyOf, generateOf}
-use Rattle.candidate.proofs.Laws.{IsFine, fine-of}
+use Rattle.candidate.specs.Rules.{aCells, bCells, flawOf, IsFine, verdictOf, judgeOf, verifyOf, generateOf}
+use Rattle.candidate.proofs.Laws.{fine-of}
 
 -- ---- neither is refused
 
@@ -33,7 +32,7 @@ unfolding verifyOf
 verify-judges query a b l h ha hb = rw (eq-eqb (length a) aBytes ha, eq-eqb (length b) bBytes hb, h)
 
 pub generate-done : (m : ℕ) (a b : List ℕ) (l : ℕ) (cells : List ℕ) (n : ℕ) → 2 ≤ m → m ≤ maxModulus → length a ≡ aBytes → length b ≡ bBytes
-    → flawOf m l (aCells a) (bCells b) ≡ Fine → length cells ≡ 2 * n → n ≤ maxTerms → generateOf m a b l cells ≡ Done
+    → flawOf m l (aCells a) (bCells b) ≡ Done → length cells ≡ 2 * n → n ≤ maxTerms → generateOf m a b l cells ≡ Done
 unfolding generateOf
 generate-done m a b l cells n least most ha hb good long few =
     rw (
@@ -69,9 +68,9 @@ abbrev pub GivesAt : Sequence → List ℕ → List ℕ → ℕ → ℕ → Type
 GivesAt s a b l i = at (s .terms) i ≡ at (generated (s .modulus) l a b (s .count)) i
 
 module _ (s : Sequence) (a b : List ℕ) (l : ℕ) (sound : IsSound s) (long-a : length a ≡ maxCells) (long-b : length b ≡ maxTerms)
-    (good : flawOf (s .modulus) l a b ≡ Fine) where
+    (good : flawOf (s .modulus) l a b ≡ Done) where
   fine : IsFine (s .modulus) l a b
-  fine = fine-of (s .modulus) l a b (ap isFine good)
+  fine = fine-of (s .modulus) l a b good
 
   judged : judgeOf s a b l ≡ verdictOf (s .count) (firstDifference (s .modulus) (s .terms) a b (s .count))
   unfolding judgeOf
@@ -88,14 +87,14 @@ module _ (s : Sequence) (a b : List ℕ) (l : ℕ) (sound : IsSound s) (long-a :
   past i h = go (lt-or-le i maxCells)
     where
       go : (i < maxCells) ⊎ (maxCells ≤ i) → at a i ≡ zero
-      go (inl k) = fine .past-a i h k
+      go (inl k) = fine .coefficients .past-a i h k
       go (inr k) = at-past a i (omega arith)
 
   small : (i : ℕ) → at b i < s .modulus
   small i = go (lt-or-le i maxTerms)
     where
       go : (i < maxTerms) ⊎ (maxTerms ≤ i) → at b i < s .modulus
-      go (inl k) = fine .below-b i k
+      go (inl k) = fine .coefficients .below-b i k
       go (inr k) = omega (arith, at-past b i (omega arith), pos)
 
   pub yes-gives : judgeOf s a b l ≡ Yes → (i : ℕ) → i < s .count → GivesAt s a b l i

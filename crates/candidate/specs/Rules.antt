@@ -1,11 +1,12 @@
 -- Candidate registers (the paper's claims): when one is malformed, what testing one against a query replies, and what running one gives.
 -- Assumes nothing.
+use mathlib.Core.Path.{_≡_}
 use mathlib.Core.Bool.{Bool, true, false, not}
 use mathlib.Core.List.{List, [], _∷_, _++_}
-use Prim.Native.Nat.{ℕ, _+_, _/_, _%_}
+use Prim.Native.Nat.{ℕ, zero, _+_, _/_, _%_, _≤_, _<_}
 use lib.Dec.{ltb, eqb}
 use lib.ListN.{length}
-use Rattle.lists.specs.Choice.{pick}
+use Rattle.lists.specs.Choice.{pick, both}
 use Rattle.lists.specs.Table.{at}
 use Rattle.lists.specs.Search.{all}
 use Rattle.cells.specs.Cell.{cellsFrom, bytesOf}
@@ -15,12 +16,10 @@ use Rattle.sequence.specs.declared.Refusal.the-variants as R
 use Rattle.sequence.specs.declared.Outcome.{Outcome}
 use Rattle.sequence.specs.declared.Outcome.the-variants.{Done, Refused}
 use Rattle.sequence.specs.Limits.{maxTerms, maxCells, aBytes, bBytes}
-use Rattle.sequence.specs.Answers.{Answer, granted, refused, number, firstOf}
+use Rattle.sequence.specs.Answers.{Answer, granted, refused, refusal, firstOf}
 use Rattle.sequence.specs.Rules.{outside, zeroFrom, sequenceOf, checkOf, queryRefusals}
 use Rattle.candidate.specs.declared.Verdict.{Verdict}
 use Rattle.candidate.specs.declared.Verdict.the-variants as W
-use Rattle.candidate.specs.declared.Flaw.{Flaw}
-use Rattle.candidate.specs.declared.Flaw.the-variants as F
 
 -- the coefficients in a lent buffer: a_0 .. a_128, b_0 .. b_127
 abbrev pub aCells : List ℕ → List ℕ
@@ -33,28 +32,30 @@ bCells b = cellsFrom b 0 maxTerms
 abbrev pub allBelow : ℕ → ℕ → List ℕ → Bool
 allBelow m n xs = all n (λ i. ltb (at xs i) m)
 
--- The first thing wrong with a candidate of length l modulo m: l above 128; a coefficient not below m, or nonzero past its end; a_0 not 1.
-unfoldable pub flawOf : ℕ → ℕ → List ℕ → List ℕ → Flaw
-flawOf m l a b =
-    pick (ltb maxTerms l) F.TooLong
-    (pick (allBelow m maxCells a)
-    (pick (allBelow m maxTerms b)
-    (pick (zeroFrom (l + 1) maxCells a)
-    (pick (zeroFrom l maxTerms b)
-    (pick (eqb (at a 0) 1) F.Fine F.Lead)
-    F.Coefficient) F.Coefficient) F.Coefficient) F.Coefficient)
+-- each coefficient of a candidate of length l is below m, and zero past its end
+abbrev pub fits : ℕ → ℕ → List ℕ → List ℕ → Bool
+fits m l a b = both (allBelow m maxCells a) (both (allBelow m maxTerms b) (both (zeroFrom (l + 1) maxCells a) (zeroFrom l maxTerms b)))
 
-abbrev pub isFine : Flaw → Bool
-isFine F.Fine = true
-isFine F.TooLong = false
-isFine F.Coefficient = false
-isFine F.Lead = false
+-- the first thing wrong with a candidate, by its tests: 25 where it is too long, 6 where a coefficient does not fit, 26 where a_0 is not 1
+abbrev pub flawBy : Bool → Bool → Bool → Outcome
+flawBy long unfit other = pick long (Refused R.TooLong) (pick unfit (Refused R.Coefficient) (pick other (Refused R.Lead) Done))
+
+unfoldable pub flawOf : ℕ → ℕ → List ℕ → List ℕ → Outcome
+flawOf m l a b = flawBy (ltb maxTerms l) (not (fits m l a b)) (not (eqb (at a 0) 1))
+
+-- the same by number, for the calls that are handed a candidate
+abbrev pub candidateRefusals : ℕ → ℕ → List ℕ → List ℕ → List (Bool × Answer)
+candidateRefusals m l a b =
+    (ltb maxTerms l, refused 25)
+    ∷ (not (fits m l a b), refused 6)
+    ∷ (not (eqb (at a 0) 1), refused 26)
+    ∷ []
 
 -- yes has no value, no the place
 abbrev pub verdictAnswer : Verdict → Answer
 verdictAnswer W.Yes = granted []
 verdictAnswer (W.No i) = granted (i ∷ [])
-verdictAnswer (W.Refused r) = refused (number r)
+verdictAnswer (W.Refused r) = refusal r
 
 -- ---- testing
 
@@ -62,18 +63,16 @@ verdictAnswer (W.Refused r) = refused (number r)
 abbrev pub verdictOf : ℕ → ℕ → Verdict
 verdictOf n i = pick (ltb i n) (W.No i) W.Yes
 
--- the test against a sound sequence: 6, or the verdict
-unfoldable pub judgeOf : Sequence → List ℕ → List ℕ → ℕ → Verdict
-judgeOf s a b l =
-    pick (isFine (flawOf (s .modulus) l a b))
-    (verdictOf (s .count) (firstDifference (s .modulus) (s .terms) a b (s .count)))
-    (W.Refused R.Candidate)
-
 abbrev pub orElse : Outcome → Verdict → Verdict
 orElse Done v = v
 orElse (Refused r) v = W.Refused r
 
--- 5 (query, a, b), 1, 2, 3, 4, 6, in this order; else the verdict
+-- the test against a sound sequence: 25, 6, 26, or the verdict
+unfoldable pub judgeOf : Sequence → List ℕ → List ℕ → ℕ → Verdict
+judgeOf s a b l =
+    orElse (flawOf (s .modulus) l a b) (verdictOf (s .count) (firstDifference (s .modulus) (s .terms) a b (s .count)))
+
+-- 5 (query, a, b), 1, 2, 3, 4, 25, 6, 26, in this order; else the verdict
 unfoldable pub verifyOf : List ℕ → List ℕ → List ℕ → ℕ → Verdict
 verifyOf query a b l =
     pick (eqb (length a) aBytes)
@@ -87,12 +86,12 @@ verifyAnswer query a b l =
     ((not (eqb (length a) aBytes), refused 5)
     ∷ (not (eqb (length b) bBytes), refused 5)
     ∷ (queryRefusals query
-    ++ ((not (isFine (flawOf (s .modulus) l (aCells a) (bCells b))), refused 6) ∷ [])))
+    ++ candidateRefusals (s .modulus) l (aCells a) (bCells b)))
     (verdictAnswer (verdictOf (s .count) (firstDifference (s .modulus) (s .terms) (aCells a) (bCells b) (s .count))))
 
 -- ---- running
 
--- 5 (a, b, an odd number of bytes), 1, 2, 6, in this order
+-- 5 (a, b, an odd number of bytes), 1, 2, 25, 6, 26, in this order
 unfoldable pub generateOf : ℕ → List ℕ → List ℕ → ℕ → List ℕ → Outcome
 generateOf m a b l cells =
     pick (eqb (length a) aBytes)
@@ -100,7 +99,7 @@ generateOf m a b l cells =
     (pick (eqb (length cells % 2) 0)
     (pick (outside m) (Refused R.Modulus)
     (pick (ltb maxTerms (length cells / 2)) (Refused R.Count)
-    (pick (isFine (flawOf m l (aCells a) (bCells b))) Done (Refused R.Candidate))))
+    (flawOf m l (aCells a) (bCells b))))
     (Refused R.Buffer))
     (Refused R.Buffer))
     (Refused R.Buffer)
@@ -113,11 +112,22 @@ generateAnswer m a b l cells =
     ∷ (not (eqb (length cells % 2) 0), refused 5)
     ∷ (outside m, refused 1)
     ∷ (ltb maxTerms (length cells / 2), refused 2)
-    ∷ (not (isFine (flawOf m l (aCells a) (bCells b))), refused 6)
-    ∷ [])
+    ∷ candidateRefusals m l (aCells a) (bCells b))
     (granted [])
 
 -- the cells at exit: run whole, or as lent
 abbrev pub generatedIn : Outcome → ℕ → List ℕ → List ℕ → ℕ → List ℕ → List ℕ
 generatedIn Done m a b l cells = bytesOf (generated m l (aCells a) (bCells b) (length cells / 2))
 generatedIn (Refused r) m a b l cells = cells
+
+-- a well-formed candidate of length l modulo m: what 6 asks, and all of it
+pub record Fits (m l : ℕ) (a b : List ℕ) : Type 0 where
+  pub below-a : (i : ℕ) → i < maxCells → at a i < m
+  pub below-b : (i : ℕ) → i < maxTerms → at b i < m
+  pub past-a : (i : ℕ) → l < i → i < maxCells → at a i ≡ zero
+  pub past-b : (i : ℕ) → l ≤ i → i < maxTerms → at b i ≡ zero
+
+pub record IsFine (m l : ℕ) (a b : List ℕ) : Type 0 where
+  pub short : l ≤ maxTerms
+  pub coefficients : Fits m l a b
+  pub lead : at a 0 ≡ 1

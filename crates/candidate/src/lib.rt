@@ -14,20 +14,12 @@ ghost use Rattle.recurrence.specs.Running.{cell, generated, firstDifference};
 ghost use Rattle.sequence.specs.Limits.{maxTerms, aBytes, bBytes};
 ghost use Rattle.sequence.specs.Answers.{outcomeAnswer};
 ghost use Rattle.sequence.specs.Rules.{IsSound, zeroFrom};
-ghost use Rattle.candidate.specs.Rules.{aCells, bCells, allBelow, flawOf, isFine, judgeOf, verdictAnswer, verifyOf, verifyAnswer, generateOf, generateAnswer, generatedIn};
+ghost use Rattle.candidate.specs.Rules.{aCells, bCells, allBelow, fits, flawBy, flawOf, judgeOf, verdictAnswer, verifyOf, verifyAnswer, generateOf, generateAnswer, generatedIn};
 
 pub enum Verdict {
     Yes,
     No(u32),
     Refused(Refusal),
-}
-
-// What is wrong with a candidate: its length; a coefficient; a_0.
-pub enum Flaw {
-    Fine,
-    TooLong,
-    Coefficient,
-    Lead,
 }
 
 // Whether each of the first n cells is below m.
@@ -60,42 +52,47 @@ fn zero_from(s: &[u8], k: usize, n: usize) -> bool
     true
 }
 
-// The first thing wrong with a candidate of length l modulo m.
-fn find_flaw(m: u32, l: u32, a: &[u8], b: &[u8]) -> Flaw
+// Whether each coefficient is below m, and zero past its end.
+fn fits(m: u32, l: u32, a: &[u8], b: &[u8]) -> bool
     requires { ⌜ (length (now a) ≡ aBytes) × (length (now b) ≡ bBytes) ⌝ }
-    ensures { λ r. ⌜ r ≡ flawOf m l (aCells (now (a .entry))) (bCells (now (b .entry))) ⌝ }
+    ensures { λ r. ⌜ r ≡ fits m l (aCells (now (a .entry))) (bCells (now (b .entry))) ⌝ }
 {
-    if sequence::MAX_TERMS < l {
-        return Flaw::TooLong;
-    }
     let k = l as usize;
     if all_below(a, CELLS, m) {
         if all_below(b, TERMS, m) {
             if zero_from(a, k + 1, CELLS) {
-                if zero_from(b, k, TERMS) {
-                    if cells::cell(a, 0) == 1 {
-                        return Flaw::Fine;
-                    }
-                    return Flaw::Lead;
-                }
+                return zero_from(b, k, TERMS);
             }
         }
     }
-    Flaw::Coefficient
+    false
 }
 
-// Whether a candidate is well formed.
-fn is_fine(m: u32, l: u32, a: &[u8], b: &[u8]) -> bool
-    requires { ⌜ (length (now a) ≡ aBytes) × (length (now b) ≡ bBytes) ⌝ }
-    ensures { λ r. ⌜ r ≡ isFine (flawOf m l (aCells (now (a .entry))) (bCells (now (b .entry)))) ⌝ }
+// The refusal of a candidate by its tests, in the order 25, 6, 26.
+fn first_flaw(long: bool, unfit: bool, other: bool) -> Outcome
+    ensures { λ r. ⌜ r ≡ flawBy long unfit other ⌝ }
 {
-    let f = find_flaw(m, l, a, b);
-    match f {
-        Flaw::Fine => true,
-        Flaw::TooLong => false,
-        Flaw::Coefficient => false,
-        Flaw::Lead => false,
+    if long {
+        return Outcome::Refused(Refusal::TooLong);
     }
+    if unfit {
+        return Outcome::Refused(Refusal::Coefficient);
+    }
+    if other {
+        return Outcome::Refused(Refusal::Lead);
+    }
+    Outcome::Done
+}
+
+// The first thing wrong with a candidate of length l modulo m.
+fn find_flaw(m: u32, l: u32, a: &[u8], b: &[u8]) -> Outcome
+    requires { ⌜ (length (now a) ≡ aBytes) × (length (now b) ≡ bBytes) ⌝ }
+    ensures { λ r. ⌜ r ≡ flawOf m l (aCells (now (a .entry))) (bCells (now (b .entry))) ⌝ }
+{
+    let long = sequence::MAX_TERMS < l;
+    let unfit = !fits(m, l, a, b);
+    let other = cells::cell(a, 0) != 1;
+    first_flaw(long, unfit, other)
 }
 
 // A coefficient times a term or a cell. 129 of these fit a u64.
@@ -138,16 +135,19 @@ pub fn judge(s: Sequence, a: &[u8], b: &[u8], l: u32) -> Verdict
     ensures { λ r. ⌜ r ≡ judgeOf s (aCells (now (a .entry))) (bCells (now (b .entry))) l ⌝ }
 {
     let m = s.modulus;
-    if is_fine(m, l, a, b) {
-        let n = s.count as usize;
-        let terms = s.terms;
-        let i = first_difference(&terms, a, b, n, m);
-        if i < n {
-            return Verdict::No(i as u32);
+    let o = find_flaw(m, l, a, b);
+    match o {
+        Outcome::Refused(r) => Verdict::Refused(r),
+        Outcome::Done => {
+            let n = s.count as usize;
+            let terms = s.terms;
+            let i = first_difference(&terms, a, b, n, m);
+            if i < n {
+                return Verdict::No(i as u32);
+            }
+            Verdict::Yes
         }
-        return Verdict::Yes;
     }
-    Verdict::Refused(Refusal::Candidate)
 }
 
 // Tests a candidate against a query: yes, or no with the first place where the product and b differ.
@@ -232,9 +232,12 @@ pub fn generate(modulus: u32, a: &[u8], b: &[u8], length: u32, out: &mut [u8]) -
     if TERMS < n {
         return Outcome::Refused(Refusal::Count);
     }
-    if is_fine(modulus, length, a, b) {
-        fill(modulus, a, b, length as usize, out, n);
-        return Outcome::Done;
+    let o = find_flaw(modulus, length, a, b);
+    match o {
+        Outcome::Refused(r) => Outcome::Refused(r),
+        Outcome::Done => {
+            fill(modulus, a, b, length as usize, out, n);
+            Outcome::Done
+        }
     }
-    Outcome::Refused(Refusal::Candidate)
 }

@@ -13,7 +13,7 @@ use Rattle.sequence.specs.declared.Refusal.the-variants as R
 use Rattle.sequence.specs.declared.Outcome.{Outcome}
 use Rattle.sequence.specs.declared.Outcome.the-variants as O
 use Rattle.sequence.specs.Limits.{queryBytes, aBytes, bBytes}
-use Rattle.sequence.specs.Answers.{Answer, granted, refused, number, firstOf}
+use Rattle.sequence.specs.Answers.{Answer, granted, refused, refusal, firstOf}
 use Rattle.sequence.specs.Rules.{sequenceOf, checkOf, queryRefusals}
 use Rattle.sequence.specs.Report.{registerOf, aBuffer, bBuffer}
 use Rattle.candidate.specs.declared.Verdict.{Verdict}
@@ -58,7 +58,7 @@ synthesizeAnswer query out = firstOf ((not (eqb (length out) recordBytes), refus
 abbrev pub lookedUpAnswer : LookedUp → Answer
 lookedUpAnswer S.Made = granted []
 lookedUpAnswer (S.Found i) = granted (i ∷ [])
-lookedUpAnswer (S.Refused r) = refused (number r)
+lookedUpAnswer (S.Refused r) = refusal r
 
 -- record i of a catalogue, and the query in it
 abbrev pub recordAt : List ℕ → ℕ → List ℕ

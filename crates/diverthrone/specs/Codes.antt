@@ -1,12 +1,14 @@
--- An answer as one number for C: the refusal's number and 256 times a value. No value is 0, and a value v is 1 + v.
+-- An answer as one number for C: the refusal's number and 256 times a value.
 -- Assumes nothing.
 use mathlib.Core.List.{List, [], _∷_}
-use Prim.Native.Nat.{ℕ, _+_, _*_}
+use Prim.Native.Nat.{ℕ, zero, suc, _+_, _*_}
 use Rattle.sequence.specs.Answers.{Answer}
 
-abbrev pub valueOf : List ℕ → ℕ
-valueOf [] = 0
-valueOf (v ∷ vs) = 1 + v
+-- Of an answer that is not refused no value is 0, and a value v is 1 + v; with a refusal the value is the place itself, 0 where it has none.
+abbrev pub valueOf : ℕ → List ℕ → ℕ
+valueOf n [] = 0
+valueOf zero (v ∷ vs) = 1 + v
+valueOf (suc n) (v ∷ vs) = v
 
 abbrev pub codeOf : Answer → ℕ
-codeOf x = x .number + 256 * valueOf (x .values)
+codeOf x = x .number + 256 * valueOf (x .number) (x .values)

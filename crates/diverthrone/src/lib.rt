@@ -2,11 +2,26 @@
 use candidate::Verdict;
 use catalogue::LookedUp;
 use sequence::Outcome;
+use sequence::Place;
+use sequence::Refusal;
 ghost use mathlib.Core.Path.{_≡_};
+ghost use Rattle.sequence.specs.Answers.{refusal};
 ghost use Rattle.sequence.specs.Report.{filled};
 ghost use Rattle.candidate.specs.Rules.{verifyAnswer, generateOf, generateAnswer, generatedIn};
 ghost use Rattle.catalogue.specs.Rules.{recordOf, synthesizeOf, synthesizeAnswer, lookUpOf, lookUpAnswer, servedIn};
 ghost use Rattle.diverthrone.specs.Codes.{codeOf};
+
+// A refusal by its number, with its place as the value.
+fn refused(r: Refusal) -> u64
+    ensures { λ n. ⌜ n ≡ codeOf (refusal r) ⌝ }
+{
+    let n = sequence::number(r);
+    let p = sequence::place_of(r);
+    match p {
+        Place::At(i) => n + 256 * (i as u64),
+        Place::Nowhere => n,
+    }
+}
 
 // Makes the record of a query.
 // Rejected: one that refuses every query; one that writes the query's bytes before it refuses.
@@ -18,7 +33,7 @@ pub extern "C" fn diverthrone_synthesize(query: &[u8], out: &mut [u8]) -> u64
     let o = catalogue::synthesize(query, out);
     match o {
         Outcome::Done => 0,
-        Outcome::Refused(r) => sequence::number(r),
+        Outcome::Refused(r) => refused(r),
     }
 }
 
@@ -33,7 +48,7 @@ pub extern "C" fn diverthrone_look_up(query: &[u8], catalogue: &[u8], out: &mut 
     match t {
         LookedUp::Made => 0,
         LookedUp::Found(i) => 256 * (1 + i as u64),
-        LookedUp::Refused(r) => sequence::number(r),
+        LookedUp::Refused(r) => refused(r),
     }
 }
 
@@ -47,7 +62,7 @@ pub extern "C" fn diverthrone_verify(query: &[u8], a: &[u8], b: &[u8], length: u
     match v {
         Verdict::Yes => 0,
         Verdict::No(i) => 256 * (1 + i as u64),
-        Verdict::Refused(r) => sequence::number(r),
+        Verdict::Refused(r) => refused(r),
     }
 }
 
@@ -67,6 +82,6 @@ pub extern "C" fn diverthrone_generate(
     let o = candidate::generate(modulus, a, b, length, out);
     match o {
         Outcome::Done => 0,
-        Outcome::Refused(r) => sequence::number(r),
+        Outcome::Refused(r) => refused(r),
     }
 }

@@ -37,6 +37,6 @@ cases =
       case10 = refl;
       case11 = refl;
       case12 = refl;
-      case13 = (refl, refl);
+      case13 = (refl, refl, refl);
       case14 = (refl, refl);
     }

@@ -32,8 +32,8 @@ use Rattle.sequence.specs.Rules.{openOf, sequenceOf, checkOf, IsSound}
 use Rattle.sequence.specs.Report.{registerOf, aBuffer, bBuffer, reportOf, written, filled}
 use Rattle.sequence.proofs.Laws.{check-done}
 use Rattle.candidate.specs.declared.Verdict.the-variants as W
-use Rattle.candidate.specs.Rules.{aCells, bCells, judgeOf}
-use Rattle.candidate.proofs.Laws.{IsFine, of-fine, no-difference}
+use Rattle.candidate.specs.Rules.{aCells, bCells, IsFine, judgeOf}
+use Rattle.candidate.proofs.Laws.{of-fine, no-difference}
 use Rattle.catalogue.specs.declared.LookedUp.{LookedUp}
 use Rattle.catalogue.specs.declared.LookedUp.the-variants.{Found, Made}
 use Rattle.catalogue.specs.Rules.{recordBytes, recordOf, synthesizeOf, recordAt, queryAt, records, firstMatch, matchOf, passes, serveOf, fetchOf, lookUpOf, servedIn}
@@ -172,10 +172,12 @@ module _ (query : List ℕ) (fine : checkOf query ≡ Done) where
   fine-candidate =
       record {
         short = short;
-        below-a = λ i h. subst (λ (z : ℕ). z < sequenceOf query .modulus) (sym (a-all i)) (right .small-a i);
-        below-b = λ i h. subst (λ (z : ℕ). z < sequenceOf query .modulus) (sym (b-all i)) (right .small-b i);
-        past-a = λ i h k. a-all i ∙ right .past-a i h;
-        past-b = λ i h k. b-all i ∙ right .past-b i h;
+        coefficients = record {
+          below-a = λ i h. subst (λ (z : ℕ). z < sequenceOf query .modulus) (sym (a-all i)) (right .small-a i);
+          below-b = λ i h. subst (λ (z : ℕ). z < sequenceOf query .modulus) (sym (b-all i)) (right .small-b i);
+          past-a = λ i h k. a-all i ∙ right .past-a i h;
+          past-b = λ i h k. b-all i ∙ right .past-b i h;
+        };
         lead = a-all 0 ∙ right .one;
       }
 

@@ -20,7 +20,6 @@ use Rattle.sequence.specs.Limits.{maxTerms, maxCells, aBytes, bBytes}
 use Rattle.sequence.specs.Rules.{sequenceOf, checkOf, IsSound}
 use Rattle.sequence.proofs.Laws.{check-done}
 use Rattle.candidate.specs.declared.Verdict.the-variants.{Yes, No}
-use Rattle.candidate.specs.declared.Flaw.the-variants.{Fine}
 use Rattle.candidate.specs.Rules.{aCells, bCells, flawOf, judgeOf, verifyOf, generateOf, generatedIn}
 use Rattle.candidate.proofs.Testing.{verify-judges, generate-done, yes-gives, gives-yes, no-differs, differs-no}
 use Rattle.guarantees.specs.Claims.{termsOf, ranIn, DiffersAt, TestedByRunning}
@@ -84,7 +83,7 @@ module _ (query : List ℕ) (passed : checkOf query ≡ Done) where
 -- ---- the cells run
 
 module _ (query a b : List ℕ) (l : ℕ) (cells : List ℕ) (passed : checkOf query ≡ Done) (ha : length a ≡ aBytes) (hb : length b ≡ bBytes)
-    (good : flawOf (cellAt query 0) l (aCells a) (bCells b) ≡ Fine) (long : length cells ≡ 2 * cellAt query 1) where
+    (good : flawOf (cellAt query 0) l (aCells a) (bCells b) ≡ Done) (long : length cells ≡ 2 * cellAt query 1) where
   -- as numbers
   gives : List ℕ
   gives = generated (cellAt query 0) l (aCells a) (bCells b) (cellAt query 1)

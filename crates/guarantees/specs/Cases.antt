@@ -10,7 +10,7 @@ use Rattle.sequence.specs.Limits.{maxCells, maxTerms, aBytes, bBytes, profileBy
 use Rattle.sequence.specs.declared.Sequence.{Sequence}
 use Rattle.sequence.specs.declared.Reported.{Reported}
 use Rattle.sequence.specs.declared.Reported.the-variants.{Length}
-use Rattle.sequence.specs.Answers.{granted, refused, outcomeAnswer}
+use Rattle.sequence.specs.Answers.{granted, refused, refusedAt, outcomeAnswer}
 use Rattle.sequence.specs.Rules.{openOf, pushOf, queryOf}
 use Rattle.sequence.specs.Report.{reportOf, aBuffer, bBuffer, written, profileOf, profileBuffer, filled}
 use Rattle.candidate.specs.declared.Verdict.the-variants.{No}
@@ -69,5 +69,8 @@ pub record Cases : Type 0 where
   pub case10 : run 7 (1 ∷ 6 ∷ 6 ∷ []) (1 ∷ 0 ∷ []) 2 6 ≡ 1 ∷ 1 ∷ 2 ∷ 3 ∷ 5 ∷ 1 ∷ []
   pub case11 : verifyOf (queryOf 9 (6 ∷ 3 ∷ 1 ∷ 5 ∷ 6 ∷ [])) (aOf (1 ∷ 4 ∷ 7 ∷ 2 ∷ [])) (bOf (6 ∷ 0 ∷ 1 ∷ [])) 3 ≡ No 3
   pub case12 : reply 6 (1 ∷ 0 ∷ []) 1 ≡ record { answer = Length 1; a = 1 ∷ 0 ∷ []; b = 1 ∷ [] }
-  pub case13 : (outcomeAnswer (pushOf (openOf 4095 .sequence) 4094 .outcome) ≡ granted []) × (outcomeAnswer (pushOf (openOf 4095 .sequence) 4095 .outcome) ≡ refused 3)
+  pub case13 :
+      (outcomeAnswer (pushOf (openOf 4095 .sequence) 4094 .outcome) ≡ granted [])
+      × (outcomeAnswer (pushOf (openOf 4095 .sequence) 4095 .outcome) ≡ refusedAt 3 0)
+      × (outcomeAnswer (pushOf (after 4095 (4094 ∷ [])) 4095 .outcome) ≡ refusedAt 3 1)
   pub case14 : (outcomeAnswer (openOf 4096 .outcome) ≡ refused 1) × (outcomeAnswer (openOf 1 .outcome) ≡ refused 1)

@@ -26,7 +26,6 @@ use Rattle.sequence.specs.Rules.{openOf, sequenceOf, checkOf}
 use Rattle.sequence.specs.Report.{reportOf, aBuffer, bBuffer, written, profileOf, profileBuffer, filled}
 use Rattle.sequence.specs.Trace.{recordsOf, traceOf, sheetFilled}
 use Rattle.candidate.specs.declared.Verdict.the-variants.{Yes, No}
-use Rattle.candidate.specs.declared.Flaw.the-variants.{Fine}
 use Rattle.candidate.specs.Rules.{aCells, bCells, flawOf, verifyOf, generateOf, generatedIn}
 use Rattle.catalogue.specs.declared.LookedUp.the-variants.{Found, Made}
 use Rattle.catalogue.specs.Rules.{recordBytes, aPlace, bPlace, lengthCell, recordOf, synthesizeOf, recordAt, records, lookUpOf, servedIn}
@@ -177,4 +176,4 @@ pub record Tested (query a b : List ℕ) (l : ℕ) (cells : List ℕ) : Type 0 w
 unfoldable pub TestedByRunning : Type 0
 TestedByRunning =
     (query a b : List ℕ) (l : ℕ) (cells : List ℕ) → checkOf query ≡ Done → length a ≡ aBytes → length b ≡ bBytes
-    → flawOf (cellAt query 0) l (aCells a) (bCells b) ≡ Fine → length cells ≡ 2 * cellAt query 1 → Tested query a b l cells
+    → flawOf (cellAt query 0) l (aCells a) (bCells b) ≡ Done → length cells ≡ 2 * cellAt query 1 → Tested query a b l cells

@@ -1,5 +1,6 @@
 // What programs write to standard output, said once for all of them: texts and numbers, refusals, and the listing's lines.
 use libc::STDOUT_FILENO;
+use sequence::Place;
 use sequence::Refusal;
 use steps::CELLS;
 ghost use mathlib.Core.Path.{_≡_};
@@ -21,10 +22,18 @@ pub fn field(n: u64) {
     number(n);
 }
 
-// A refusal by its number; the line may go on.
+// A refusal by its number, with its place; the line may go on.
 pub fn refused(r: Refusal) {
     text(b"refused ");
     number(sequence::number(r));
+    let p = sequence::place_of(r);
+    match p {
+        Place::At(i) => {
+            text(b" at ");
+            number(i as u64);
+        }
+        Place::Nowhere => {}
+    }
 }
 
 pub fn refusal_line(r: Refusal) {

@@ -13,12 +13,11 @@ use Rattle.sequence.specs.declared.Outcome.{Outcome}
 use Rattle.sequence.specs.declared.Outcome.the-variants.{Done, Refused}
 use Rattle.sequence.specs.declared.Reported.{Reported}
 use Rattle.sequence.specs.declared.Reported.the-variants as P
-use Rattle.sequence.specs.declared.Fault.the-variants.{Sound, Modulus, Count, Term, Padding}
 use Rattle.sequence.specs.declared.Opened.{Opened}
 use Rattle.sequence.specs.declared.Pushed.{Pushed}
 use Rattle.sequence.specs.Limits.{maxTerms, queryBytes, aBytes, bBytes, profileBytes}
-use Rattle.sequence.specs.Answers.{Answer, granted, refused, number, outcomeAnswer, reportedAnswer, firstOf}
-use Rattle.sequence.specs.Rules.{outside, firstLarge, zeroFrom, faultOf, isSound, refusalOf, fresh, openOf, openAnswer, longer, pushOf, pushAnswer, sequenceOf, checkOf, queryRefusals}
+use Rattle.sequence.specs.Answers.{Answer, granted, refused, refusedAt, refusal, outcomeAnswer, reportedAnswer, firstOf}
+use Rattle.sequence.specs.Rules.{outside, firstLarge, zeroFrom, faultOf, isSound, fresh, openOf, openAnswer, longer, pushOf, pushAnswer, sequenceOf, checkOf, queryRefusals}
 use Rattle.sequence.specs.Report.{registerOf, reportOf, reportAnswer, profileOf, profileAnswer}
 
 -- ---- the calls that hold a sequence
@@ -48,8 +47,8 @@ push-told s t e = (e, ap (λ (x : Pushed). outcomeAnswer (x .outcome)) e ∙ go 
 
     go :
         (a b d : Bool)
-        → outcomeAnswer (pick a (pick b (with s (Refused R.Full)) (pick d (with s (Refused R.Term)) (with (longer s t) Done))) (with s (Refused R.Sequence)) .outcome)
-        ≡ pick (not a) (refused 21) (pick b (refused 22) (pick d (refused 3) (granted [])))
+        → outcomeAnswer (pick a (pick b (with s (Refused R.Full)) (pick d (with s (Refused (R.Term (s .count)))) (with (longer s t) Done))) (with s (Refused R.Sequence)) .outcome)
+        ≡ pick (not a) (refused 21) (pick b (refused 22) (pick d (refusedAt 3 (s .count)) (granted [])))
     go false b d = refl
     go true true d = refl
     go true false true = refl
@@ -88,7 +87,7 @@ profile-told s cells e x = (e, (x, ap outcomeAnswer e ∙ go (eqb (length cells)
 -- the answer where the query is not refused
 abbrev pub orRefused : Outcome → Answer → Answer
 orRefused Done x = x
-orRefused (Refused r) x = refused (number r)
+orRefused (Refused r) x = refusal r
 
 -- the query's refusals come first, then those behind them
 pub query-told : (query : List ℕ) (rest : List (Bool × Answer)) (x : Answer) → orRefused (checkOf query) (firstOf rest x) ≡ firstOf (queryRefusals query ++ rest) x
@@ -104,8 +103,8 @@ query-told query rest x =
 
     go :
         (a b d f z : Bool)
-        → orRefused (pick a (refusalOf (pick b Modulus (pick d Count (pick f (Term i) (pick z Sound Padding))))) (Refused R.Buffer)) (firstOf rest x)
-        ≡ pick (not a) (refused 5) (pick b (refused 1) (pick d (refused 2) (pick f (refused 3) (pick (not z) (refused 4) (firstOf rest x)))))
+        → orRefused (pick a (pick b (Refused R.Modulus) (pick d (Refused R.Count) (pick f (Refused (R.Term i)) (pick z Done (Refused R.Padding))))) (Refused R.Buffer)) (firstOf rest x)
+        ≡ pick (not a) (refused 5) (pick b (refused 1) (pick d (refused 2) (pick f (refusedAt 3 i) (pick (not z) (refused 4) (firstOf rest x)))))
     go false b d f z = refl
     go true true d f z = refl
     go true false true f z = refl

@@ -9,22 +9,26 @@ use native.Mathlib.Nat.{le-refl}
 use native.Mathlib.Omega.{arith}
 use lib.Dec.{ltb, leb, eqb}
 use lib.ListN.{length}
-use borrow.Author.Tests.{ltb-false, leb-false, eqb-true, lt-ltb, le-ltb, lt-leb, le-leb, eq-eqb, ne-eqb}
+use borrow.Author.Tests.{ltb-true, ltb-false, leb-true, leb-false, eqb-true, lt-ltb, le-ltb, lt-leb, le-leb, eq-eqb, ne-eqb}
 use Rattle.lists.specs.Choice.{pick}
 use Rattle.lists.specs.Table.{at}
-use Rattle.lists.proofs.Search.{false-true, lt-or-le, first-none, none-first, all-at, all-true}
+use Rattle.lists.proofs.Search.{false-true, lt-or-le, first-passes, first-before, is-first, first-none, none-first, all-at, all-true}
 use Rattle.sequence.specs.declared.Sequence.{Sequence}
+use Rattle.sequence.specs.declared.Refusal.{Refusal}
 use Rattle.sequence.specs.declared.Refusal.the-variants as R
+use Rattle.sequence.specs.declared.Outcome.{Outcome}
 use Rattle.sequence.specs.declared.Outcome.the-variants.{Done, Refused}
 use Rattle.sequence.specs.declared.Checked.{Checked}
-use Rattle.sequence.specs.declared.Fault.{Fault}
-use Rattle.sequence.specs.declared.Fault.the-variants.{Sound, Modulus, Count, Term, Padding}
 use Rattle.sequence.specs.Limits.{maxModulus, maxTerms, queryBytes}
-use Rattle.sequence.specs.Rules.{outside, firstLarge, zeroFrom, faultOf, refusalOf, isSound, IsSound, fresh, openOf, longer, pushOf, sequenceOf, checkOf, checkedOf}
+use Rattle.sequence.specs.Rules.{outside, firstLarge, zeroFrom, faultOf, isSound, IsSound, fresh, openOf, longer, pushOf, sequenceOf, checkOf, checkedOf}
 
 -- sequences are equal by their fields
 pub same : {m m' n n' : ℕ} {t t' : List ℕ} → m ≡ m' → n ≡ n' → t ≡ t' → _≡_ {A = Sequence} (record { modulus = m; count = n; terms = t }) (record { modulus = m'; count = n'; terms = t' })
 same p q r = λ i. record { modulus = p i; count = q i; terms = r i }
+
+-- what is refused is not done
+pub refused-done : {A : Type 0} {r : Refusal} → Refused r ≡ Done → A
+refused-done h = false-true (ap isSound h)
 
 -- ---- zeros
 
@@ -42,10 +46,26 @@ zero-at k n xs z i x y = eqb-true _ _ (rw (le-ltb i k x) at (all-at n _ z i y))
 
 -- ---- sound sequences
 
--- nothing wrong was found with it
-pub sound-of : (s : Sequence) → isSound (faultOf s) ≡ true → IsSound s
+-- the first term that is not below the modulus stands at place i
+pub record TermAt (s : Sequence) (i : ℕ) : Type 0 where
+  pub least : 2 ≤ s .modulus
+  pub most : s .modulus ≤ maxModulus
+  pub count : s .count ≤ maxTerms
+  pub within : i < s .count
+  pub large : s .modulus ≤ at (s .terms) i
+  pub before : (j : ℕ) → j < i → at (s .terms) j < s .modulus
+
+-- each thing that may be wrong with a sequence, with what it says where more than the refusal is wanted; or nothing
+pub data Fault (s : Sequence) (o : Outcome) : Type 0 where
+  modulus : o ≡ Refused R.Modulus → Fault s o
+  count : o ≡ Refused R.Count → Fault s o
+  term : (i : ℕ) → TermAt s i → o ≡ Refused (R.Term i) → Fault s o
+  padding : o ≡ Refused R.Padding → Fault s o
+  sound : IsSound s → o ≡ Done → Fault s o
+
+pub fault : (s : Sequence) → Fault s (faultOf s)
 unfolding faultOf
-sound-of s h = go (ltb m 2) (ltb maxModulus m) (ltb maxTerms n) (ltb (firstLarge m (s .terms) n) n) (zeroFrom n maxTerms (s .terms)) refl refl refl refl refl h
+fault s = go (ltb m 2) (ltb maxModulus m) (ltb maxTerms n) (ltb i n) (zeroFrom n maxTerms (s .terms)) refl refl refl refl refl
   where
     m : ℕ
     m = s .modulus
@@ -53,30 +73,67 @@ sound-of s h = go (ltb m 2) (ltb maxModulus m) (ltb maxTerms n) (ltb (firstLarge
     n : ℕ
     n = s .count
 
+    i : ℕ
+    i = firstLarge m (s .terms) n
+
     go :
-        (a b d e z : Bool) → ltb m 2 ≡ a → ltb maxModulus m ≡ b → ltb maxTerms n ≡ d → ltb (firstLarge m (s .terms) n) n ≡ e → zeroFrom n maxTerms (s .terms) ≡ z
-        → isSound (pick (pick a true b) Modulus (pick d Count (pick e (Term (firstLarge m (s .terms) n)) (pick z Sound Padding)))) ≡ true → IsSound s
-    go true b d e z a' b' d' e' z' h = false-true h
-    go false true d e z a' b' d' e' z' h = false-true h
-    go false false true e z a' b' d' e' z' h = false-true h
-    go false false false true z a' b' d' e' z' h = false-true h
-    go false false false false false a' b' d' e' z' h = false-true h
-    go false false false false true a' b' d' e' z' h =
-        record {
+        (a b d e z : Bool) → ltb m 2 ≡ a → ltb maxModulus m ≡ b → ltb maxTerms n ≡ d → ltb i n ≡ e → zeroFrom n maxTerms (s .terms) ≡ z
+        → Fault s (pick (pick a true b) (Refused R.Modulus) (pick d (Refused R.Count) (pick e (Refused (R.Term i)) (pick z Done (Refused R.Padding)))))
+    go true b d e z a' b' d' e' z' = modulus refl
+    go false true d e z a' b' d' e' z' = modulus refl
+    go false false true e z a' b' d' e' z' = count refl
+    go false false false true z a' b' d' e' z' =
+        term i
+        (record {
+          least = ltb-false _ _ a';
+          most = ltb-false _ _ b';
+          count = ltb-false _ _ d';
+          within = ltb-true _ _ e';
+          large = leb-true _ _ (first-passes n (λ j. leb m (at (s .terms) j)) (ltb-true _ _ e'));
+          before = λ j k. leb-false _ _ (first-before n (λ j. leb m (at (s .terms) j)) j k);
+        })
+        refl
+    go false false false false false a' b' d' e' z' = padding refl
+    go false false false false true a' b' d' e' z' =
+        sound
+        (record {
           least = ltb-false _ _ a';
           most = ltb-false _ _ b';
           count = ltb-false _ _ d';
           below = λ j k. leb-false _ _ (first-none n _ (ltb-false _ _ e') j k);
           zeros = zero-at n maxTerms (s .terms) z';
-        }
+        })
+        refl
+
+-- nothing wrong was found with it
+pub sound-of : (s : Sequence) → isSound (faultOf s) ≡ true → IsSound s
+sound-of s h = go (fault s)
+  where
+    refused : {r : Refusal} → faultOf s ≡ Refused r → IsSound s
+    refused e = false-true (sym (ap isSound e) ∙ h)
+
+    go : Fault s (faultOf s) → IsSound s
+    go (modulus e) = refused e
+    go (count e) = refused e
+    go (term i t e) = refused e
+    go (padding e) = refused e
+    go (sound k e) = k
 
 -- and of a sound one nothing is found
-pub of-sound : (s : Sequence) → IsSound s → faultOf s ≡ Sound
+pub of-sound : (s : Sequence) → IsSound s → faultOf s ≡ Done
 unfolding faultOf
 of-sound s h =
     let none : ltb (firstLarge (s .modulus) (s .terms) (s .count)) (s .count) ≡ false =
     rw (none-first (s .count) (λ i. leb (s .modulus) (at (s .terms) i)) (λ j k. lt-leb _ _ (h .below j k))) (le-ltb _ _ (le-refl (s .count))) in
     rw (le-ltb _ _ (h .least), le-ltb _ _ (h .most), le-ltb _ _ (h .count), none, zero-from (s .count) maxTerms (s .terms) (h .zeros))
+
+-- a term that is not below the modulus is refused with its place
+pub of-term : (s : Sequence) (i : ℕ) → TermAt s i → faultOf s ≡ Refused (R.Term i)
+unfolding faultOf
+of-term s i h =
+    let first-is : firstLarge (s .modulus) (s .terms) (s .count) ≡ i =
+    sym (is-first (s .count) _ i (omega (arith, h .within)) (λ j k. lt-leb _ _ (h .before j k)) (λ k. le-leb _ _ (h .large))) in
+    rw (le-ltb _ _ (h .least), le-ltb _ _ (h .most), le-ltb _ _ (h .count), first-is, lt-ltb _ _ (h .within))
 
 pub is-sound : (s : Sequence) → IsSound s → isSound (faultOf s) ≡ true
 is-sound s h = ap isSound (of-sound s h)
@@ -104,26 +161,18 @@ pub push-full : (s : Sequence) (t : ℕ) → IsSound s → s .count ≡ maxTerms
 unfolding pushOf
 push-full s t h k = rw (is-sound s h, eq-eqb _ _ k)
 
-pub push-large : (s : Sequence) (t : ℕ) → IsSound s → s .count < maxTerms → s .modulus ≤ t → pushOf s t ≡ record { sequence = s; outcome = Refused R.Term }
+pub push-large : (s : Sequence) (t : ℕ) → IsSound s → s .count < maxTerms → s .modulus ≤ t → pushOf s t ≡ record { sequence = s; outcome = Refused (R.Term (s .count)) }
 unfolding pushOf
 push-large s t h k b = rw (is-sound s h, ne-eqb (s .count) maxTerms (λ e. omega arith), le-leb _ _ b)
 
 -- ---- queries
 
--- only of no fault is nothing refused
-done-sound : (f : Fault) → refusalOf f ≡ Done → isSound f ≡ true
-done-sound Sound h = refl
-done-sound Modulus h = cc
-done-sound Count h = cc
-done-sound (Term i) h = cc
-done-sound Padding h = cc
-
 pub check-done : (query : List ℕ) → checkOf query ≡ Done → (length query ≡ queryBytes) × IsSound (sequenceOf query)
 unfolding checkOf
 check-done query h = go (eqb (length query) queryBytes) refl h
   where
-    go : (b : Bool) → eqb (length query) queryBytes ≡ b → pick b (refusalOf (faultOf (sequenceOf query))) (Refused R.Buffer) ≡ Done → (length query ≡ queryBytes) × IsSound (sequenceOf query)
-    go true e h = (eqb-true _ _ e, sound-of (sequenceOf query) (done-sound (faultOf (sequenceOf query)) h))
+    go : (b : Bool) → eqb (length query) queryBytes ≡ b → pick b (faultOf (sequenceOf query)) (Refused R.Buffer) ≡ Done → (length query ≡ queryBytes) × IsSound (sequenceOf query)
+    go true e h = (eqb-true _ _ e, sound-of (sequenceOf query) (ap isSound h))
     go false e h = let z : _≡_ {A = Bool} false true = cc in false-true z
 
 -- what `check` tells

@@ -6,6 +6,8 @@ use Prim.Native.Nat.{ℕ}
 use Rattle.lists.specs.Choice.{pick}
 use Rattle.sequence.specs.declared.Refusal.{Refusal}
 use Rattle.sequence.specs.declared.Refusal.the-variants as R
+use Rattle.sequence.specs.declared.Place.{Place}
+use Rattle.sequence.specs.declared.Place.the-variants.{At, Nowhere}
 use Rattle.sequence.specs.declared.Outcome.{Outcome}
 use Rattle.sequence.specs.declared.Outcome.the-variants as O
 use Rattle.sequence.specs.declared.Reported.{Reported}
@@ -22,27 +24,38 @@ granted vs = record { number = 0; values = vs }
 abbrev pub refused : ℕ → Answer
 refused n = record { number = n; values = [] }
 
--- the paper's number of a refusal
-abbrev pub number : Refusal → ℕ
-number R.Modulus = 1
-number R.Count = 2
-number R.Term = 3
-number R.Padding = 4
-number R.Buffer = 5
-number R.Candidate = 6
-number R.Sequence = 21
-number R.Full = 22
-number R.Catalogue = 23
-number R.Record = 24
+-- one that carries a place, counted from 0
+abbrev pub refusedAt : ℕ → ℕ → Answer
+refusedAt n i = record { number = n; values = i ∷ [] }
+
+-- each refusal by its number in the paper, and the place that it carries
+abbrev pub refusal : Refusal → Answer
+refusal R.Modulus = refused 1
+refusal R.Count = refused 2
+refusal (R.Term i) = refusedAt 3 i
+refusal R.Padding = refused 4
+refusal R.Buffer = refused 5
+refusal R.Coefficient = refused 6
+refusal R.Sequence = refused 21
+refusal R.Full = refused 22
+refusal R.Catalogue = refused 23
+refusal R.Record = refused 24
+refusal R.TooLong = refused 25
+refusal R.Lead = refused 26
+
+-- a place as a value
+abbrev pub placed : Place → List ℕ
+placed (At i) = i ∷ []
+placed Nowhere = []
 
 abbrev pub outcomeAnswer : Outcome → Answer
 outcomeAnswer O.Done = granted []
-outcomeAnswer (O.Refused r) = refused (number r)
+outcomeAnswer (O.Refused r) = refusal r
 
 -- a register's reply: its length
 abbrev pub reportedAnswer : Reported → Answer
 reportedAnswer (P.Length l) = granted (l ∷ [])
-reportedAnswer (P.Refused r) = refused (number r)
+reportedAnswer (P.Refused r) = refusal r
 
 -- Refusals in their order: the answer beside the first test that holds, and the last one where none does.
 unfoldable pub firstOf : List (Bool × Answer) → Answer → Answer

@@ -14,13 +14,11 @@ use Rattle.sequence.specs.declared.Sequence.{Sequence}
 use Rattle.sequence.specs.declared.Refusal.the-variants as R
 use Rattle.sequence.specs.declared.Outcome.{Outcome}
 use Rattle.sequence.specs.declared.Outcome.the-variants.{Done, Refused}
-use Rattle.sequence.specs.declared.Fault.{Fault}
-use Rattle.sequence.specs.declared.Fault.the-variants.{Sound, Modulus, Count, Term, Padding}
 use Rattle.sequence.specs.declared.Opened.{Opened}
 use Rattle.sequence.specs.declared.Pushed.{Pushed}
 use Rattle.sequence.specs.declared.Checked.{Checked}
 use Rattle.sequence.specs.Limits.{maxModulus, maxTerms, queryBytes}
-use Rattle.sequence.specs.Answers.{Answer, granted, refused, firstOf}
+use Rattle.sequence.specs.Answers.{Answer, granted, refused, refusedAt, firstOf}
 
 -- ---- what is wrong with a sequence
 
@@ -35,28 +33,17 @@ firstLarge m terms n = first n (λ i. leb m (at terms i))
 abbrev pub zeroFrom : ℕ → ℕ → List ℕ → Bool
 zeroFrom k n xs = all n (λ i. pick (ltb i k) true (eqb (at xs i) zero))
 
--- the first thing wrong, in the order of the refusals 1, 2, 3, 4
-unfoldable pub faultOf : Sequence → Fault
+-- the first thing wrong, as the refusal of a query that writes the sequence down: 1, 2, 3 with the first such place, 4, in this order
+unfoldable pub faultOf : Sequence → Outcome
 faultOf s =
-    pick (outside (s .modulus)) Modulus
-    (pick (ltb maxTerms (s .count)) Count
-    (pick (ltb (firstLarge (s .modulus) (s .terms) (s .count)) (s .count)) (Term (firstLarge (s .modulus) (s .terms) (s .count)))
-    (pick (zeroFrom (s .count) maxTerms (s .terms)) Sound Padding)))
+    pick (outside (s .modulus)) (Refused R.Modulus)
+    (pick (ltb maxTerms (s .count)) (Refused R.Count)
+    (pick (ltb (firstLarge (s .modulus) (s .terms) (s .count)) (s .count)) (Refused (R.Term (firstLarge (s .modulus) (s .terms) (s .count))))
+    (pick (zeroFrom (s .count) maxTerms (s .terms)) Done (Refused R.Padding))))
 
-abbrev pub isSound : Fault → Bool
-isSound Sound = true
-isSound Modulus = false
-isSound Count = false
-isSound (Term i) = false
-isSound Padding = false
-
--- the refusal that goes with it, where a query has it
-abbrev pub refusalOf : Fault → Outcome
-refusalOf Sound = Done
-refusalOf Modulus = Refused R.Modulus
-refusalOf Count = Refused R.Count
-refusalOf (Term i) = Refused R.Term
-refusalOf Padding = Refused R.Padding
+abbrev pub isSound : Outcome → Bool
+isSound Done = true
+isSound (Refused r) = false
 
 -- ---- opening, pushing
 
@@ -76,12 +63,12 @@ openAnswer m = firstOf ((outside m, refused 1) ∷ []) (granted [])
 abbrev pub longer : Sequence → ℕ → Sequence
 longer s t = record { modulus = s .modulus; count = s .count + 1; terms = set (s .terms) (s .count) t }
 
--- 21, 22, 3, in this order, and the sequence as it came
+-- 21, 22, 3 with the count, in this order, and the sequence as it came
 unfoldable pub pushOf : Sequence → ℕ → Pushed
 pushOf s t =
     pick (isSound (faultOf s))
     (pick (eqb (s .count) maxTerms) (record { sequence = s; outcome = Refused R.Full })
-    (pick (leb (s .modulus) t) (record { sequence = s; outcome = Refused R.Term }) (record { sequence = longer s t; outcome = Done })))
+    (pick (leb (s .modulus) t) (record { sequence = s; outcome = Refused (R.Term (s .count)) }) (record { sequence = longer s t; outcome = Done })))
     (record { sequence = s; outcome = Refused R.Sequence })
 
 abbrev pub pushAnswer : Sequence → ℕ → Answer
@@ -89,7 +76,7 @@ pushAnswer s t =
     firstOf
     ((not (isSound (faultOf s)), refused 21)
     ∷ (eqb (s .count) maxTerms, refused 22)
-    ∷ (leb (s .modulus) t, refused 3)
+    ∷ (leb (s .modulus) t, refusedAt 3 (s .count))
     ∷ [])
     (granted [])
 
@@ -105,7 +92,7 @@ sequenceOf query = record { modulus = cellAt query 0; count = cellAt query 1; te
 
 -- the first refusal of a query among 5, 1, 2, 3, 4
 unfoldable pub checkOf : List ℕ → Outcome
-checkOf query = pick (eqb (length query) queryBytes) (refusalOf (faultOf (sequenceOf query))) (Refused R.Buffer)
+checkOf query = pick (eqb (length query) queryBytes) (faultOf (sequenceOf query)) (Refused R.Buffer)
 
 -- the sequence of a query with its refusal; a query of another length writes none down
 unfoldable pub checkedOf : List ℕ → Checked
@@ -115,10 +102,11 @@ checkedOf query = record { sequence = pick (eqb (length query) queryBytes) (sequ
 abbrev pub queryRefusals : List ℕ → List (Bool × Answer)
 queryRefusals query =
     let s = sequenceOf query in
+    let i = firstLarge (s .modulus) (s .terms) (s .count) in
     (not (eqb (length query) queryBytes), refused 5)
     ∷ (outside (s .modulus), refused 1)
     ∷ (ltb maxTerms (s .count), refused 2)
-    ∷ (ltb (firstLarge (s .modulus) (s .terms) (s .count)) (s .count), refused 3)
+    ∷ (ltb i (s .count), refusedAt 3 i)
     ∷ (not (zeroFrom (s .count) maxTerms (s .terms)), refused 4)
     ∷ []
 

@@ -13,10 +13,10 @@ ghost use Rattle.cells.specs.Cell.{bytesOf};
 ghost use Rattle.steps.specs.Sizes.{logWords};
 ghost use Rattle.synthesis.specs.Synthesis.{synthesisOf};
 ghost use Rattle.sequence.specs.Limits.{maxTerms, maxCells, queryBytes, aBytes, bBytes, registerBytes};
-ghost use Rattle.sequence.specs.Answers.{number, outcomeAnswer, reportedAnswer};
+ghost use Rattle.sequence.specs.Answers.{refusal, placed, outcomeAnswer, reportedAnswer};
 ghost use Rattle.sequence.specs.Report.{reportOf, reportAnswer, written, aBuffer, bBuffer, profileOf, profileAnswer, filled, profileBuffer};
 ghost use Rattle.sequence.specs.Trace.{recordsOf, traceOf, traceAnswer, sheetFilled, wordsOf, workOf, unworked};
-ghost use Rattle.sequence.specs.Rules.{IsSound, outside, firstLarge, zeroFrom, faultOf, refusalOf, isSound, fresh, openOf, openAnswer, pushOf, pushAnswer, sequenceOf, checkedOf};
+ghost use Rattle.sequence.specs.Rules.{IsSound, outside, firstLarge, zeroFrom, faultOf, isSound, fresh, openOf, openAnswer, pushOf, pushAnswer, sequenceOf, checkedOf};
 
 // The largest modulus.
 const MAX_MODULUS: u32 = 4095;
@@ -43,18 +43,26 @@ pub struct Sequence {
     pub terms: [u32; TERMS],
 }
 
-// Why a call did nothing. `Answers.number` has the paper's number of each.
+// Why a call did nothing. `Answers.refusal` has the paper's number of each. A term has its place, counted from 0.
 pub enum Refusal {
     Modulus,
     Count,
-    Term,
+    Term(u32),
     Padding,
     Buffer,
-    Candidate,
+    Coefficient,
     Sequence,
     Full,
     Catalogue,
     Record,
+    TooLong,
+    Lead,
+}
+
+// The place that a refusal carries.
+pub enum Place {
+    At(u32),
+    Nowhere,
 }
 
 pub enum Outcome {
@@ -88,15 +96,6 @@ pub struct Pushed {
 pub struct Checked {
     pub sequence: Sequence,
     pub outcome: Outcome,
-}
-
-// The first thing wrong with a sequence; of a term, its place.
-enum Fault {
-    Sound,
-    Modulus,
-    Count,
-    Term(u32),
-    Padding,
 }
 
 // Whether a modulus lies outside the limits.
@@ -174,57 +173,42 @@ fn zero_from(terms: &[u32; TERMS], n: u32) -> bool
     true
 }
 
-// The first thing wrong with a sequence, in the order of the refusals 1, 2, 3, 4.
-fn inspect(s: Sequence) -> Fault
-    ensures { λ f. ⌜ f ≡ faultOf s ⌝ }
+// The first thing wrong with a sequence, as the refusal of a query that writes it down: 1, 2, 3, 4, in this order.
+fn inspect(s: Sequence) -> Outcome
+    ensures { λ o. ⌜ o ≡ faultOf s ⌝ }
 {
     let m = s.modulus;
     let n = s.count;
     if outside(m) {
-        return Fault::Modulus;
+        return Outcome::Refused(Refusal::Modulus);
     }
     if MAX_TERMS < n {
-        return Fault::Count;
+        return Outcome::Refused(Refusal::Count);
     }
     let terms = s.terms;
     let i = first_large(&terms, n, m);
     if i < n {
-        return Fault::Term(i);
+        return Outcome::Refused(Refusal::Term(i));
     }
     if zero_from(&terms, n) {
-        return Fault::Sound;
+        return Outcome::Done;
     }
-    Fault::Padding
-}
-
-// The refusal of a query with that fault. (The place of a term is not told yet.)
-fn refuse(f: Fault) -> Outcome
-    ensures { λ r. ⌜ r ≡ refusalOf f ⌝ }
-{
-    match f {
-        Fault::Sound => Outcome::Done,
-        Fault::Modulus => Outcome::Refused(Refusal::Modulus),
-        Fault::Count => Outcome::Refused(Refusal::Count),
-        Fault::Term(_) => Outcome::Refused(Refusal::Term),
-        Fault::Padding => Outcome::Refused(Refusal::Padding),
-    }
+    Outcome::Refused(Refusal::Padding)
 }
 
 // Whether a sequence is within the limits: nothing is wrong with it.
 fn is_sound(s: Sequence) -> bool
     ensures { λ r. ⌜ r ≡ isSound (faultOf s) ⌝ }
 {
-    let f = inspect(s);
-    match f {
-        Fault::Sound => true,
-        Fault::Modulus => false,
-        Fault::Count => false,
-        Fault::Term(_) => false,
-        Fault::Padding => false,
+    let o = inspect(s);
+    match o {
+        Outcome::Done => true,
+        Outcome::Refused(_) => false,
     }
 }
 
-// The sequence with one more term at its end; as it came, with the refusal, where it is unsound or full or the term is too large.
+// The sequence with one more term at its end; as it came, with the refusal, where it is unsound or full or the term is too large. The
+// place of such a term is the one that it would have had.
 // The whole sequence is inspected at each call: its fields are public, so that anyone can hand in one that no call made.
 // Rejected: a push that is full at 127 terms; one that stores a term and then refuses it.
 pub fn push(s: Sequence, term: u32) -> Pushed
@@ -233,6 +217,7 @@ pub fn push(s: Sequence, term: u32) -> Pushed
 {
     if is_sound(s) {
         let n = s.count;
+        let more = n + 1;
         if n == MAX_TERMS {
             return Pushed {
                 sequence: s,
@@ -242,12 +227,12 @@ pub fn push(s: Sequence, term: u32) -> Pushed
         if s.modulus <= term {
             return Pushed {
                 sequence: s,
-                outcome: Outcome::Refused(Refusal::Term),
+                outcome: Outcome::Refused(Refusal::Term(n)),
             };
         }
         let mut longer = s;
         longer.terms[n as usize] = term;
-        longer.count = n + 1;
+        longer.count = more;
         return Pushed {
             sequence: longer,
             outcome: Outcome::Done,
@@ -291,8 +276,7 @@ pub fn check(query: &[u8]) -> Checked
         };
     }
     let s = load(query);
-    let f = inspect(s);
-    let o = refuse(f);
+    let o = inspect(s);
     Checked {
         sequence: s,
         outcome: o,
@@ -301,19 +285,31 @@ pub fn check(query: &[u8]) -> Checked
 
 // The paper's number of a refusal.
 pub fn number(r: Refusal) -> u64
-    ensures { λ n. ⌜ (n ≡ number r) × (n < 256) ⌝ }
+    ensures { λ n. ⌜ (n ≡ refusal r .number) × (n < 256) ⌝ }
 {
     match r {
         Refusal::Modulus => 1,
         Refusal::Count => 2,
-        Refusal::Term => 3,
+        Refusal::Term(_) => 3,
         Refusal::Padding => 4,
         Refusal::Buffer => 5,
-        Refusal::Candidate => 6,
+        Refusal::Coefficient => 6,
         Refusal::Sequence => 21,
         Refusal::Full => 22,
         Refusal::Catalogue => 23,
         Refusal::Record => 24,
+        Refusal::TooLong => 25,
+        Refusal::Lead => 26,
+    }
+}
+
+// The place that a refusal carries.
+pub fn place_of(r: Refusal) -> Place
+    ensures { λ p. ⌜ placed p ≡ refusal r .values ⌝ }
+{
+    match r {
+        Refusal::Term(i) => Place::At(i),
+        _ => Place::Nowhere,
     }
 }
 

@@ -6,8 +6,8 @@ use borrow.Author.Needs.{needs}
 use borrow.Author.Tests.{lt-ltb, le-ltb, eq-eqb, ne-eqb}
 use Rattle.sequence.specs.Limits.{maxModulus}
 use Rattle.sequence.proofs.Laws.{inside}
-use Rattle.candidate.specs.Rules.{aCells, bCells, generateOf}
-use Rattle.candidate.proofs.Laws.{IsFine, fine-of}
+use Rattle.candidate.specs.Rules.{aCells, bCells, IsFine, generateOf}
+use Rattle.candidate.proofs.Laws.{fine-of}
 use Rattle.candidate.proofs.Answers.{generate-told}
 use Rattle.candidate.proofs.generate.Statement.{statement}
 use Rattle.candidate.proofs.generate.Tie as tie
@@ -58,42 +58,49 @@ returns-5 c =
     (simp (eq-eqb _ _ (t .before .before .if1 .left), eq-eqb _ _ (t .before .if2 .left), eq-eqb _ _ (t .if3 .left), ← m .before .outside .ensures, m .if4 .left, lt-ltb _ _ (c .if5 .taken)))
     refl
 
-is-fine-requires : tie.Need-is-fine-requires
-is-fine-requires c κs = search needs
+find-flaw-requires : tie.Need-find-flaw-requires
+find-flaw-requires c κs = search needs
+
+enum-known-o : tie.Need-enum-known-o
+enum-known-o c = search needs
+
+enum-told : tie.Need-enum-told
+enum-told c = search needs
 
 fill-requires : tie.Need-fill-requires
 fill-requires c κs =
-    let k = c .before .before in
+    let k = c .before .before .before in
     let m = k .before .before in
     let v = m .before .before .before .before .before .before .before .before .args in
     let limits : (2 ≤ v .modulus) × (v .modulus ≤ maxModulus) = inside (v .modulus) (sym (m .before .outside .ensures) ∙ m .if4 .left) in
-    let fine : IsFine (v .modulus) (v .length) (aCells (v .a .now)) (bCells (v .b .now)) = fine-of _ _ _ _ (sym (k .is-fine .ensures) ∙ c .before .if6 .taken) in
-    (search needs, fine .below-b)
-
-same-length : tie.Need-same-length
-same-length c = search needs
+    let fine : IsFine (v .modulus) (v .length) (aCells (v .a .now)) (bCells (v .b .now)) = fine-of _ _ _ _ (sym (k .find-flaw .ensures) ∙ c .before .enum-told .given .1) in
+    (search needs, fine .coefficients .below-b)
 
 returns-6 : tie.Need-returns-6
 unfolding generateOf
 returns-6 c =
-    let k = c .before .before .before .before .before in
+    let k = c .before .before .before in
     let m = k .before .before in
     let t = m .before .before in
     let v = t .before .before .before .before .before .before .args in
     generate-told (v .modulus) (v .a .now) (v .b .now) (v .length) (v .out .now)
-    (simp (eq-eqb _ _ (t .before .before .if1 .left), eq-eqb _ _ (t .before .if2 .left), eq-eqb _ _ (t .if3 .left), ← m .before .outside .ensures, m .if4 .left, le-ltb _ _ (k .before .if5 .left), ← k .is-fine .ensures, c .before .before .before .before .if6 .taken))
-    (c .before .before .fill .ensures)
+    (simp (eq-eqb _ _ (t .before .before .if1 .left), eq-eqb _ _ (t .before .if2 .left), eq-eqb _ _ (t .if3 .left), ← m .before .outside .ensures, m .if4 .left, le-ltb _ _ (k .before .if5 .left), ← k .find-flaw .ensures, c .before .o .given .1))
+    refl
+
+same-length : tie.Need-same-length
+same-length c = search needs
 
 returns-7 : tie.Need-returns-7
 unfolding generateOf
 returns-7 c =
-    let k = c .before in
+    let e = c .before .before .before .before in
+    let k = e .before .before in
     let m = k .before .before in
     let t = m .before .before in
     let v = t .before .before .before .before .before .before .args in
     generate-told (v .modulus) (v .a .now) (v .b .now) (v .length) (v .out .now)
-    (simp (eq-eqb _ _ (t .before .before .if1 .left), eq-eqb _ _ (t .before .if2 .left), eq-eqb _ _ (t .if3 .left), ← m .before .outside .ensures, m .if4 .left, le-ltb _ _ (k .before .if5 .left), ← k .is-fine .ensures, c .if6 .left))
-    refl
+    (simp (eq-eqb _ _ (t .before .before .if1 .left), eq-eqb _ _ (t .before .if2 .left), eq-eqb _ _ (t .if3 .left), ← m .before .outside .ensures, m .if4 .left, le-ltb _ _ (k .before .if5 .left), ← k .find-flaw .ensures, e .enum-told .given .1))
+    (c .before .before .fill .ensures)
 
 pub generate-spec : {M : Type 1} → statement M
 generate-spec =
@@ -105,8 +112,10 @@ generate-spec =
     outside-requires
     returns-4
     returns-5
-    is-fine-requires
+    find-flaw-requires
+    enum-known-o
+    enum-told
     fill-requires
-    same-length
     returns-6
+    same-length
     returns-7)

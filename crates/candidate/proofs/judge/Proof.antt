@@ -6,8 +6,14 @@ use Rattle.candidate.specs.Rules.{judgeOf}
 use Rattle.candidate.proofs.judge.Statement.{statement}
 use Rattle.candidate.proofs.judge.Tie as tie
 
-is-fine-requires : tie.Need-is-fine-requires
-is-fine-requires c κs = search needs
+find-flaw-requires : tie.Need-find-flaw-requires
+find-flaw-requires c κs = search needs
+
+enum-known-o : tie.Need-enum-known-o
+enum-known-o c = search needs
+
+enum-told : tie.Need-enum-told
+enum-told c = search needs
 
 cast-n : tie.Need-cast-n
 cast-n c = search needs
@@ -15,24 +21,35 @@ cast-n c = search needs
 first-difference-requires : tie.Need-first-difference-requires
 first-difference-requires c κs = search needs
 
-cast-t12 : tie.Need-cast-t12
-cast-t12 c = search needs
+cast-t14 : tie.Need-cast-t14
+cast-t14 c = search needs
 
 returns : tie.Need-returns
 unfolding judgeOf
 returns c =
     let f = c .before .before .before .before .before in
-    simp (← f .before .is-fine .ensures, f .if1 .taken, ← c .before .first-difference .ensures, lt-ltb _ _ (c .if2 .taken))
+    simp (← f .before .before .find-flaw .ensures, f .enum-told .given .1, ← c .before .first-difference .ensures, lt-ltb _ _ (c .if1 .taken))
 
 returns-2 : tie.Need-returns-2
 unfolding judgeOf
-returns-2 c =
-    let f = c .before .before .before .before .before in
-    simp (← f .before .is-fine .ensures, f .if1 .taken, ← c .before .first-difference .ensures, le-ltb _ _ (c .if2 .left))
+returns-2 c = simp (← c .before .before .before .find-flaw .ensures, c .before .o .given .1)
 
 returns-3 : tie.Need-returns-3
 unfolding judgeOf
-returns-3 c = simp (← c .before .is-fine .ensures, c .if1 .left)
+returns-3 c =
+    let f = c .before .before .before .before .before in
+    simp (← f .before .before .find-flaw .ensures, f .enum-told .given .1, ← c .before .first-difference .ensures, le-ltb _ _ (c .if1 .left))
 
 pub judge-spec : {M : Type 1} → statement M
-judge-spec = tie.close (tie.spec is-fine-requires cast-n first-difference-requires cast-t12 returns returns-2 returns-3)
+judge-spec =
+    tie.close
+    (tie.spec
+    find-flaw-requires
+    enum-known-o
+    enum-told
+    cast-n
+    first-difference-requires
+    cast-t14
+    returns
+    returns-2
+    returns-3)

@@ -6,7 +6,6 @@ use Rattle.sequence.specs.Answers.{outcomeAnswer}
 use Rattle.sequence.specs.declared.Outcome.{Outcome}
 use Rattle.candidate.specs.Rules.{generatedIn}
 use Rattle.diverthrone.specs.Codes.{codeOf}
-use Rattle.diverthrone.proofs.Laws.{plain}
 use Rattle.diverthrone.proofs.diverthrone_generate.Statement.{statement}
 use Rattle.diverthrone.proofs.diverthrone_generate.Tie as tie
 
@@ -19,8 +18,8 @@ enum-told c = search needs
 enum-known-o : tie.Need-enum-known-o
 enum-known-o c = search needs
 
-number-requires : tie.Need-number-requires
-number-requires c κs = search needs
+refused-requires : tie.Need-refused-requires
+refused-requires c κs = search needs
 
 same-length : tie.Need-same-length
 same-length c = search needs
@@ -40,7 +39,7 @@ returns-2 : tie.Need-returns-2
 returns-2 c =
     let m = c .before .before .before .before .before .before in
     let s = m .before .before .before .before .before .args in (
-      plain (c .number .ensures .0) ∙ ap (λ (z : Outcome). codeOf (outcomeAnswer z)) (sym (c .before .before .o .given .1)) ∙ ap codeOf (m .generate .ensures .1 .1),
+      c .refused .ensures ∙ ap (λ (z : Outcome). codeOf (outcomeAnswer z)) (sym (c .before .before .o .given .1)) ∙ ap codeOf (m .generate .ensures .1 .1),
       m .generate .ensures .1 .0 ∙ ap (λ (z : Outcome). generatedIn z (s .modulus) (s .a .now) (s .b .now) (s .length) (s .out .now)) (m .generate .ensures .0),
     )
 
@@ -51,7 +50,7 @@ diverthrone-generate-spec =
     generate-requires
     enum-told
     enum-known-o
-    number-requires
+    refused-requires
     same-length
     returns
     same-length-2

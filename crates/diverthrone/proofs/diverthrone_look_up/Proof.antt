@@ -8,7 +8,7 @@ use Rattle.catalogue.specs.declared.LookedUp.{LookedUp}
 use Rattle.catalogue.specs.Rules.{recordBytes, lookedUpAnswer, servedIn}
 use Rattle.catalogue.proofs.Laws.{found-below}
 use Rattle.diverthrone.specs.Codes.{codeOf}
-use Rattle.diverthrone.proofs.Laws.{plain, valued}
+use Rattle.diverthrone.proofs.Laws.{valued}
 use Rattle.diverthrone.proofs.diverthrone_look_up.Statement.{statement}
 use Rattle.diverthrone.proofs.diverthrone_look_up.Tie as tie
 
@@ -38,8 +38,8 @@ mul-result c = omega (arith, place (c .before))
 enum-known-t-2 : tie.Need-enum-known-t-2
 enum-known-t-2 c = search needs
 
-number-requires : tie.Need-number-requires
-number-requires c κs = search needs
+refused-requires : tie.Need-refused-requires
+refused-requires c κs = search needs
 
 same-length : tie.Need-same-length
 same-length c = search needs
@@ -70,7 +70,7 @@ returns-3 : tie.Need-returns-3
 returns-3 c =
     let m = c .before .before .before .before .before .before in
     let s = m .before .before .before .before .before .args in (
-      plain (c .number .ensures .0) ∙ ap (λ (z : LookedUp). codeOf (lookedUpAnswer z)) (sym (c .before .before .t2 .given .1)) ∙ ap codeOf (m .look-up .ensures .1 .1),
+      c .refused .ensures ∙ ap (λ (z : LookedUp). codeOf (lookedUpAnswer z)) (sym (c .before .before .t2 .given .1)) ∙ ap codeOf (m .look-up .ensures .1 .1),
       m .look-up .ensures .1 .0 ∙ ap (λ (z : LookedUp). servedIn z (s .query .now) (s .catalogue .now) (s .out .now)) (m .look-up .ensures .0),
     )
 
@@ -84,7 +84,7 @@ diverthrone-look-up-spec =
     add-result
     mul-result
     enum-known-t-2
-    number-requires
+    refused-requires
     same-length
     returns
     same-length-2

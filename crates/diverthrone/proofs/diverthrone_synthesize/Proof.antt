@@ -7,7 +7,6 @@ use Rattle.sequence.specs.declared.Outcome.{Outcome}
 use Rattle.sequence.specs.Report.{filled}
 use Rattle.catalogue.specs.Rules.{recordOf}
 use Rattle.diverthrone.specs.Codes.{codeOf}
-use Rattle.diverthrone.proofs.Laws.{plain}
 use Rattle.diverthrone.proofs.diverthrone_synthesize.Statement.{statement}
 use Rattle.diverthrone.proofs.diverthrone_synthesize.Tie as tie
 
@@ -20,8 +19,8 @@ enum-told c = search needs
 enum-known-o : tie.Need-enum-known-o
 enum-known-o c = search needs
 
-number-requires : tie.Need-number-requires
-number-requires c κs = search needs
+refused-requires : tie.Need-refused-requires
+refused-requires c κs = search needs
 
 same-length : tie.Need-same-length
 same-length c = search needs
@@ -41,7 +40,7 @@ returns-2 : tie.Need-returns-2
 returns-2 c =
     let m = c .before .before .before .before .before .before in
     let s = m .before .before .before .before .args in (
-      plain (c .number .ensures .0) ∙ ap (λ (z : Outcome). codeOf (outcomeAnswer z)) (sym (c .before .before .o .given .1)) ∙ ap codeOf (m .synthesize .ensures .1 .1),
+      c .refused .ensures ∙ ap (λ (z : Outcome). codeOf (outcomeAnswer z)) (sym (c .before .before .o .given .1)) ∙ ap codeOf (m .synthesize .ensures .1 .1),
       m .synthesize .ensures .1 .0 ∙ ap (λ (z : Outcome). filled z (recordOf (s .query .now)) (s .out .now)) (m .synthesize .ensures .0),
     )
 
@@ -52,7 +51,7 @@ diverthrone-synthesize-spec =
     synthesize-requires
     enum-told
     enum-known-o
-    number-requires
+    refused-requires
     same-length
     returns
     same-length-2

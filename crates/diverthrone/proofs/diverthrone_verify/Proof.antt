@@ -5,7 +5,7 @@ use borrow.Author.Needs.{needs}
 use Rattle.candidate.specs.declared.Verdict.{Verdict}
 use Rattle.candidate.specs.Rules.{verdictAnswer}
 use Rattle.diverthrone.specs.Codes.{codeOf}
-use Rattle.diverthrone.proofs.Laws.{plain, valued}
+use Rattle.diverthrone.proofs.Laws.{valued}
 use Rattle.diverthrone.proofs.diverthrone_verify.Statement.{statement}
 use Rattle.diverthrone.proofs.diverthrone_verify.Tie as tie
 
@@ -30,8 +30,8 @@ mul-result c = search needs
 enum-known-v-2 : tie.Need-enum-known-v-2
 enum-known-v-2 c = search needs
 
-number-requires : tie.Need-number-requires
-number-requires c κs = search needs
+refused-requires : tie.Need-refused-requires
+refused-requires c κs = search needs
 
 returns : tie.Need-returns
 returns c = ap (λ (z : Verdict). codeOf (verdictAnswer z)) (sym (c .enum-told .given .1)) ∙ ap codeOf (c .before .before .verify .ensures .1)
@@ -40,7 +40,7 @@ returns-2 : tie.Need-returns-2
 returns-2 c = valued (c .before .v .given .0 .0) ∙ ap (λ (z : Verdict). codeOf (verdictAnswer z)) (sym (c .before .v .given .1)) ∙ ap codeOf (c .before .before .before .verify .ensures .1)
 
 returns-3 : tie.Need-returns-3
-returns-3 c = plain (c .number .ensures .0) ∙ ap (λ (z : Verdict). codeOf (verdictAnswer z)) (sym (c .before .before .v2 .given .1)) ∙ ap codeOf (c .before .before .before .before .verify .ensures .1)
+returns-3 c = c .refused .ensures ∙ ap (λ (z : Verdict). codeOf (verdictAnswer z)) (sym (c .before .before .v2 .given .1)) ∙ ap codeOf (c .before .before .before .before .verify .ensures .1)
 
 pub diverthrone-verify-spec : {M : Type 1} → statement M
 diverthrone-verify-spec =
@@ -53,7 +53,7 @@ diverthrone-verify-spec =
     add-result
     mul-result
     enum-known-v-2
-    number-requires
+    refused-requires
     returns
     returns-2
     returns-3)

@@ -19,14 +19,11 @@ load-requires c κs = search needs
 inspect-requires : tie.Need-inspect-requires
 inspect-requires c κs = search needs
 
-refuse-requires : tie.Need-refuse-requires
-refuse-requires c κs = search needs
-
 returns-2 : tie.Need-returns-2
 unfolding checkedOf checkOf
 returns-2 c =
-    let l = c .before .before in
-    simp (eq-eqb _ _ (l .before .if1 .left), c .refuse .ensures, c .before .inspect .ensures, l .load .ensures)
+    let l = c .before in
+    simp (eq-eqb _ _ (l .before .if1 .left), c .inspect .ensures, l .load .ensures)
 
 pub check-spec : {M : Type 1} → statement M
 check-spec =
@@ -36,5 +33,4 @@ check-spec =
     returns
     load-requires
     inspect-requires
-    refuse-requires
     returns-2)

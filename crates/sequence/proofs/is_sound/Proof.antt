@@ -15,42 +15,11 @@ enum-told c = search needs
 enum-told-2 : tie.Need-enum-told-2
 enum-told-2 c = search needs
 
-enum-told-3 : tie.Need-enum-told-3
-enum-told-3 c = search needs
-
-enum-told-4 : tie.Need-enum-told-4
-enum-told-4 c = search needs
-
-enum-told-5 : tie.Need-enum-told-5
-enum-told-5 c = search needs
-
 returns : tie.Need-returns
 returns c = ap isSound (sym (c .enum-told .given .1) ∙ c .before .before .inspect .ensures)
 
 returns-2 : tie.Need-returns-2
 returns-2 c = ap isSound (sym (c .enum-told2 .given .1) ∙ c .before .before .inspect .ensures)
 
-returns-3 : tie.Need-returns-3
-returns-3 c = ap isSound (sym (c .enum-told3 .given .1) ∙ c .before .before .inspect .ensures)
-
-returns-4 : tie.Need-returns-4
-returns-4 c = ap isSound (sym (c .enum-told4 .given .1) ∙ c .before .before .inspect .ensures)
-
-returns-5 : tie.Need-returns-5
-returns-5 c = ap isSound (sym (c .enum-told5 .given .1) ∙ c .before .before .inspect .ensures)
-
 pub is-sound-spec : {M : Type 1} → statement M
-is-sound-spec =
-    tie.close
-    (tie.spec
-    inspect-requires
-    enum-told
-    enum-told-2
-    enum-told-3
-    enum-told-4
-    enum-told-5
-    returns
-    returns-2
-    returns-3
-    returns-4
-    returns-5)
+is-sound-spec = tie.close (tie.spec inspect-requires enum-told enum-told-2 returns returns-2)

@@ -1,0 +1,44 @@
+-- `sequence::place_of` meets its contract: of all refusals only a term's carries a place.
+-- Assumes nothing.
+use mathlib.Core.Path.{_≡_, refl, sym, ap}
+use mathlib.Core.List.{List, [], _∷_}
+use Prim.Native.Nat.{ℕ}
+use types.Run.{OneOf, miss}
+use denote.Enum.Declared.{tagOf}
+use borrow.Author.Needs.{needs}
+use Rattle.sequence.specs.declared.Refusal.{Refusal}
+use Rattle.sequence.specs.declared.Refusal.the-variants as R
+use Rattle.sequence.specs.Answers.{refusal}
+use Rattle.sequence.proofs.Refusal.{the-type}
+use Rattle.sequence.proofs.place_of.Statement.{statement}
+use Rattle.sequence.proofs.place_of.Tie as tie
+
+enum-known-r : tie.Need-enum-known-r
+enum-known-r c = search needs
+
+returns : tie.Need-returns
+returns c = ap (λ (x : Refusal). refusal x .values) (sym (c .before .r .given .1))
+
+returns-2 : tie.Need-returns-2
+returns-2 c = go (c .before .args .r) (c .match .keys2)
+  where
+    -- all but that of a term, which is 2
+    tags : List ℕ
+    tags = 0 ∷ 1 ∷ 3 ∷ 4 ∷ 5 ∷ 6 ∷ 7 ∷ 8 ∷ 9 ∷ 10 ∷ 11 ∷ []
+
+    go : (r : Refusal) → OneOf tags (tagOf the-type r) → [] ≡ refusal r .values
+    go R.Modulus k = refl
+    go R.Count k = refl
+    go (R.Term i) k = absurd (miss tags 2 tt k)
+    go R.Padding k = refl
+    go R.Buffer k = refl
+    go R.Coefficient k = refl
+    go R.Sequence k = refl
+    go R.Full k = refl
+    go R.Catalogue k = refl
+    go R.Record k = refl
+    go R.TooLong k = refl
+    go R.Lead k = refl
+
+pub place-of-spec : {M : Type 1} → statement M
+place-of-spec = tie.close (tie.spec enum-known-r returns returns-2)
