@@ -6,3 +6,4 @@ pub mod Cases
 pub mod Numbers
 pub mod Driving
 pub mod Testing
+pub mod Refusals

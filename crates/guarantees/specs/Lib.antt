@@ -2,4 +2,5 @@ pub mod Calls
 pub mod Claims
 pub mod Cases
 pub mod Numbers
+pub mod Refusals
 pub mod Coded

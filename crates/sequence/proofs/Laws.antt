@@ -9,6 +9,7 @@ use native.Mathlib.Nat.{le-refl}
 use native.Mathlib.Omega.{arith}
 use lib.Dec.{ltb, leb, eqb}
 use lib.ListN.{length}
+use lib.Arith.{lt-of-le-ne}
 use borrow.Author.Tests.{ltb-true, ltb-false, leb-true, leb-false, eqb-true, lt-ltb, le-ltb, lt-leb, le-leb, eq-eqb, ne-eqb}
 use Rattle.lists.specs.Choice.{pick}
 use Rattle.lists.specs.Table.{at}
@@ -18,8 +19,10 @@ use Rattle.sequence.specs.declared.Refusal.{Refusal}
 use Rattle.sequence.specs.declared.Refusal.the-variants as R
 use Rattle.sequence.specs.declared.Outcome.{Outcome}
 use Rattle.sequence.specs.declared.Outcome.the-variants.{Done, Refused}
+use Rattle.sequence.specs.declared.Pushed.{Pushed}
 use Rattle.sequence.specs.declared.Checked.{Checked}
 use Rattle.sequence.specs.Limits.{maxModulus, maxTerms, queryBytes}
+use Rattle.sequence.specs.Answers.{refusal, outcomeAnswer}
 use Rattle.sequence.specs.Rules.{outside, firstLarge, zeroFrom, faultOf, isSound, IsSound, fresh, openOf, longer, pushOf, sequenceOf, checkOf, checkedOf}
 
 -- sequences are equal by their fields
@@ -153,6 +156,30 @@ open-done m h k = rw (le-ltb _ _ h, le-ltb _ _ k)
 
 -- ---- pushing
 
+-- each reply of a push by its refusal, with what it says where a term is too large; or none
+pub data Push (s : Sequence) (t : ℕ) (o : Outcome) : Type 0 where
+  unsound : o ≡ Refused R.Sequence → Push s t o
+  full : o ≡ Refused R.Full → Push s t o
+  large : IsSound s → s .count < maxTerms → s .modulus ≤ t → o ≡ Refused (R.Term (s .count)) → Push s t o
+  done : o ≡ Done → Push s t o
+
+pub pushing : (s : Sequence) (t : ℕ) → Push s t (pushOf s t .outcome)
+unfolding pushOf
+pushing s t = go (isSound (faultOf s)) (eqb (s .count) maxTerms) (leb (s .modulus) t) refl refl refl
+  where
+    with : Sequence → Outcome → Pushed
+    with x o = record { sequence = x; outcome = o }
+
+    go :
+        (x y z : Bool) → isSound (faultOf s) ≡ x → eqb (s .count) maxTerms ≡ y → leb (s .modulus) t ≡ z
+        → Push s t (pick x (pick y (with s (Refused R.Full)) (pick z (with s (Refused (R.Term (s .count)))) (with (longer s t) Done))) (with s (Refused R.Sequence)) .outcome)
+    go false y z x' y' z' = unsound refl
+    go true true z x' y' z' = full refl
+    go true false true x' y' z' =
+        let k = sound-of s x' in
+        large k (lt-of-le-ne (k .count) (λ e. false-true (sym y' ∙ eq-eqb _ _ e))) (leb-true _ _ z') refl
+    go true false false x' y' z' = done refl
+
 pub push-done : (s : Sequence) (t : ℕ) → IsSound s → s .count < maxTerms → t < s .modulus → pushOf s t ≡ record { sequence = longer s t; outcome = Done }
 unfolding pushOf
 push-done s t h k b = rw (is-sound s h, ne-eqb (s .count) maxTerms (λ e. omega arith), lt-leb _ _ b)
@@ -166,6 +193,64 @@ unfolding pushOf
 push-large s t h k b = rw (is-sound s h, ne-eqb (s .count) maxTerms (λ e. omega arith), le-leb _ _ b)
 
 -- ---- queries
+
+-- a refusal has its number
+pub same-number : {r r' : Refusal} → Refused r ≡ Refused r' → refusal r .number ≡ refusal r' .number
+same-number h = ap (λ (o : Outcome). outcomeAnswer o .number) h
+
+-- each reply of the check of a query, with what it says where a term is too large; or none
+pub data Check (query : List ℕ) (o : Outcome) : Type 0 where
+  buffer : o ≡ Refused R.Buffer → Check query o
+  fault-of : length query ≡ queryBytes → Fault (sequenceOf query) o → Check query o
+
+pub checking : (query : List ℕ) → Check query (checkOf query)
+unfolding checkOf
+checking query = go (eqb (length query) queryBytes) refl
+  where
+    go : (b : Bool) → eqb (length query) queryBytes ≡ b → Check query (pick b (faultOf (sequenceOf query)) (Refused R.Buffer))
+    go true e = fault-of (eqb-true _ _ e) (fault (sequenceOf query))
+    go false e = buffer refl
+
+-- a query's own refusals are numbered from 1 to 5
+pub check-small : (query : List ℕ) {r : Refusal} → checkOf query ≡ Refused r → refusal r .number ≤ 5
+check-small query {r} h = go (checking query)
+  where
+    small : {x : Refusal} → checkOf query ≡ Refused x → refusal x .number ≤ 5 → refusal r .number ≤ 5
+    small e k = omega (arith, k, same-number (sym e ∙ h))
+
+    fault-small : Fault (sequenceOf query) (checkOf query) → refusal r .number ≤ 5
+    fault-small (modulus e) = small e (omega arith)
+    fault-small (count e) = small e (omega arith)
+    fault-small (term i t e) = small e (omega arith)
+    fault-small (padding e) = small e (omega arith)
+    fault-small (sound k e) = refused-done (sym h ∙ e)
+
+    go : Check query (checkOf query) → refusal r .number ≤ 5
+    go (buffer e) = small e (omega arith)
+    go (fault-of l f) = fault-small f
+
+-- 3 is given for the first term that is not below the modulus
+pub term-check : (query : List ℕ) (i : ℕ) → checkOf query ≡ Refused (R.Term i) → (length query ≡ queryBytes) × TermAt (sequenceOf query) i
+term-check query i h = go (checking query)
+  where
+    -- another number than 3
+    other : {r : Refusal} → checkOf query ≡ Refused r → (refusal r .number ≡ 3 → ⊥) → (length query ≡ queryBytes) × TermAt (sequenceOf query) i
+    other e k = absurd (k (same-number (sym e ∙ h)))
+
+    of-fault : length query ≡ queryBytes → Fault (sequenceOf query) (checkOf query) → (length query ≡ queryBytes) × TermAt (sequenceOf query) i
+    of-fault l (modulus e) = other e (λ k. omega arith)
+    of-fault l (count e) = other e (λ k. omega arith)
+    of-fault l (term j t e) = let same-place : j ≡ i = cc in (l, subst (TermAt (sequenceOf query)) same-place t)
+    of-fault l (padding e) = other e (λ k. omega arith)
+    of-fault l (sound k e) = refused-done (sym h ∙ e)
+
+    go : Check query (checkOf query) → (length query ≡ queryBytes) × TermAt (sequenceOf query) i
+    go (buffer e) = other e (λ k. omega arith)
+    go (fault-of l f) = of-fault l f
+
+pub check-term : (query : List ℕ) (i : ℕ) → length query ≡ queryBytes → TermAt (sequenceOf query) i → checkOf query ≡ Refused (R.Term i)
+unfolding checkOf
+check-term query i h t = rw (eq-eqb _ _ h) (of-term (sequenceOf query) i t)
 
 pub check-done : (query : List ℕ) → checkOf query ≡ Done → (length query ≡ queryBytes) × IsSound (sequenceOf query)
 unfolding checkOf

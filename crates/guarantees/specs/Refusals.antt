@@ -1,0 +1,112 @@
+-- The claims about refusal 3 and its place, and about 25, 6 and 26: a query's first wrong term, and what is wrong with a candidate.
+-- Assumes nothing.
+use mathlib.Core.Path.{_≡_}
+use mathlib.Core.Logic.{_⊎_}
+use mathlib.Core.List.{List}
+use Prim.Native.Nat.{ℕ, zero, _+_, _/_, _%_, _≤_, _<_}
+use lib.ListN.{length, take, drop}
+use Rattle.lists.specs.Table.{at}
+use Rattle.cells.specs.Cell.{cellAt}
+use Rattle.sequence.specs.declared.Sequence.{Sequence}
+use Rattle.sequence.specs.declared.Refusal.{Refusal}
+use Rattle.sequence.specs.declared.Refusal.the-variants as R
+use Rattle.sequence.specs.declared.Outcome.the-variants as O
+use Rattle.sequence.specs.Limits.{maxModulus, maxTerms, queryBytes, aBytes, bBytes}
+use Rattle.sequence.specs.Rules.{IsSound, openOf, pushOf, sequenceOf, checkOf}
+use Rattle.candidate.specs.declared.Verdict.the-variants as W
+use Rattle.candidate.specs.Rules.{aCells, bCells, Fits, IsFine, verifyOf, generateOf}
+use Rattle.catalogue.specs.declared.LookedUp.the-variants as S
+use Rattle.catalogue.specs.Rules.{recordBytes, aPlace, bPlace, lengthCell, records, recordAt, firstMatch, synthesizeOf, lookUpOf}
+use Rattle.guarantees.specs.Calls.{Call, afterAll, taken}
+
+-- ---- where a query is wrong
+
+-- none of the query's own 5, 1, 2 applies
+pub record Readable (query : List ℕ) : Type 0 where
+  pub long : length query ≡ queryBytes
+  pub least : 2 ≤ cellAt query 0
+  pub most : cellAt query 0 ≤ maxModulus
+  pub count : cellAt query 1 ≤ maxTerms
+
+-- place i is among the query's terms, and its term is not below the modulus
+pub record WrongAt (query : List ℕ) (i : ℕ) : Type 0 where
+  pub within : i < cellAt query 1
+  pub large : cellAt query 0 ≤ cellAt query (2 + i)
+
+-- it is the first such place: each term before it is below the modulus
+pub record FirstWrong (query : List ℕ) (i : ℕ) : Type 0 where
+  pub wrong : WrongAt query i
+  pub before : (j : ℕ) → j < i → cellAt query (2 + j) < cellAt query 0
+
+-- The reply to a query, where `refused` makes one of a refusal and `lent` says that the other buffers have their lengths: none of 5.
+pub record Placed {A : Type 0} (refused : Refusal → A) (reply : A) (lent : Type 0) (query : List ℕ) : Type 0 where
+  -- it is 3 at place i exactly when none of 5, 1, 2 applies and i is the first wrong place
+  pub told-first : (i : ℕ) → reply ≡ refused (R.Term i) → lent × Readable query × FirstWrong query i
+  pub first-told : (i : ℕ) → lent → Readable query → FirstWrong query i → reply ≡ refused (R.Term i)
+  -- and it is 3 whenever none of them applies and some term is wrong
+  pub wrong-told : (j : ℕ) → lent → Readable query → WrongAt query j → (i : ℕ) × (reply ≡ refused (R.Term i))
+
+-- a push of t to the sequence s, which is sound and has n terms modulo m: 3 at place n exactly when there is room and t is not below m
+pub record PushPlaced (m n : ℕ) (s : Sequence) (t : ℕ) : Type 0 where
+  pub told-large : (i : ℕ) → pushOf s t .outcome ≡ O.Refused (R.Term i) → (n < maxTerms) × (m ≤ t) × (i ≡ n)
+  pub large-told : n < maxTerms → m ≤ t → pushOf s t .outcome ≡ O.Refused (R.Term n)
+
+-- every call that replies 3
+pub record EveryPlace : Type 0 where
+  pub synthesized : (query out : List ℕ) → Placed O.Refused (synthesizeOf query out) (length out ≡ recordBytes) query
+  pub looked-up : (query catalogue out : List ℕ) → Placed S.Refused (lookUpOf query catalogue out) (length out ≡ recordBytes) query
+  pub verified : (query a b : List ℕ) (l : ℕ) → Placed W.Refused (verifyOf query a b l) ((length a ≡ aBytes) × (length b ≡ bBytes)) query
+  -- a push to any sequence; one that is not sound never gets 3
+  pub pushed : (s : Sequence) (t : ℕ) → IsSound s → PushPlaced (s .modulus) (s .count) s t
+  pub pushed-sound : (s : Sequence) (t i : ℕ) → pushOf s t .outcome ≡ O.Refused (R.Term i) → IsSound s
+  -- after every list of calls the place is the number of terms taken
+  pub pushed-after :
+      (m : ℕ) → 2 ≤ m → m ≤ maxModulus → (calls : List Call) (t : ℕ) → PushPlaced m (length (taken m calls)) (afterAll (openOf m .sequence) calls) t
+
+-- ---- what is wrong with a candidate
+
+-- one of the three refusals
+abbrev pub OneOfThree : {A : Type 0} → (Refusal → A) → A → Type 0
+OneOfThree refused reply = (reply ≡ refused R.TooLong) ⊎ ((reply ≡ refused R.Coefficient) ⊎ (reply ≡ refused R.Lead))
+
+-- The reply to a candidate of length l modulo m, where `refused` makes one of a refusal and `reached` says that no refusal before 25 applies.
+pub record Flawed {A : Type 0} (refused : Refusal → A) (reply : A) (reached : Type 0) (m l : ℕ) (a b : List ℕ) : Type 0 where
+  -- 25 exactly when the length is above 128
+  pub told-long : reply ≡ refused R.TooLong → reached × (maxTerms < l)
+  pub long-told : reached → maxTerms < l → reply ≡ refused R.TooLong
+  -- 6 exactly when it is not, and a coefficient is not below m or not zero past its end
+  pub told-unfit : reply ≡ refused R.Coefficient → reached × (l ≤ maxTerms) × (Fits m l a b → ⊥)
+  pub unfit-told : reached → l ≤ maxTerms → (Fits m l a b → ⊥) → reply ≡ refused R.Coefficient
+  -- 26 exactly when neither is so and a_0 is not 1
+  pub told-other : reply ≡ refused R.Lead → reached × (l ≤ maxTerms) × Fits m l a b × (at a 0 ≡ 1 → ⊥)
+  pub other-told : reached → l ≤ maxTerms → Fits m l a b → (at a 0 ≡ 1 → ⊥) → reply ≡ refused R.Lead
+  -- one of the three exactly when the candidate is malformed: when 6 was given before there were three
+  pub told-malformed : OneOfThree refused reply → reached × (IsFine m l a b → ⊥)
+  pub malformed-told : reached → (IsFine m l a b → ⊥) → OneOfThree refused reply
+
+-- no refusal of a run before 25 applies
+pub record Runs (m : ℕ) (a b cells : List ℕ) : Type 0 where
+  pub a-long : length a ≡ aBytes
+  pub b-long : length b ≡ bBytes
+  pub even : length cells % 2 ≡ zero
+  pub least : 2 ≤ m
+  pub most : m ≤ maxModulus
+  pub count : length cells / 2 ≤ maxTerms
+
+-- the register in record i of a catalogue is a well-formed candidate modulo m
+abbrev pub FineAt : ℕ → List ℕ → ℕ → Type 0
+FineAt m catalogue i =
+    let entry = recordAt catalogue i in
+    IsFine m (cellAt entry lengthCell) (aCells (take aBytes (drop aPlace entry))) (bCells (take bBytes (drop bPlace entry)))
+
+-- every call that is handed a candidate, and looking up, where 24 covers all three
+pub record EveryFlaw : Type 0 where
+  pub verified :
+      (query a b : List ℕ) (l : ℕ)
+      → Flawed W.Refused (verifyOf query a b l) ((length a ≡ aBytes) × (length b ≡ bBytes) × (checkOf query ≡ O.Done)) (cellAt query 0) l (aCells a) (bCells b)
+  pub generated : (m : ℕ) (a b : List ℕ) (l : ℕ) (cells : List ℕ) → Flawed O.Refused (generateOf m a b l cells) (Runs m a b cells) m l (aCells a) (bCells b)
+  pub covered :
+      (query catalogue out : List ℕ) → checkOf query ≡ O.Done → length out ≡ recordBytes → length catalogue % recordBytes ≡ zero
+      → firstMatch query catalogue (records catalogue) < records catalogue
+      → (FineAt (cellAt query 0) catalogue (firstMatch query catalogue (records catalogue)) → ⊥) → lookUpOf query catalogue out ≡ S.Refused R.Record
+  pub never : (query catalogue out : List ℕ) → OneOfThree S.Refused (lookUpOf query catalogue out) → ⊥
