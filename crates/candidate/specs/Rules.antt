@@ -1,7 +1,7 @@
 -- Candidate registers (the paper's claims): when one is malformed, what testing one against a query replies, and what running one gives.
 -- Assumes nothing.
 use mathlib.Core.Path.{_≡_}
-use mathlib.Core.Bool.{Bool, true, false, not}
+use mathlib.Core.Bool.{Bool, not}
 use mathlib.Core.List.{List, [], _∷_, _++_}
 use Prim.Native.Nat.{ℕ, zero, _+_, _/_, _%_, _≤_, _<_}
 use lib.Dec.{ltb, eqb}
@@ -120,13 +120,14 @@ abbrev pub generatedIn : Outcome → ℕ → List ℕ → List ℕ → ℕ → L
 generatedIn Done m a b l cells = bytesOf (generated m l (aCells a) (bCells b) (length cells / 2))
 generatedIn (Refused r) m a b l cells = cells
 
--- a well-formed candidate of length l modulo m: what 6 asks, and all of it
+-- what 6 asks of a candidate of length l modulo m
 pub record Fits (m l : ℕ) (a b : List ℕ) : Type 0 where
   pub below-a : (i : ℕ) → i < maxCells → at a i < m
   pub below-b : (i : ℕ) → i < maxTerms → at b i < m
   pub past-a : (i : ℕ) → l < i → i < maxCells → at a i ≡ zero
   pub past-b : (i : ℕ) → l ≤ i → i < maxTerms → at b i ≡ zero
 
+-- a well-formed candidate: what 25, 6 and 26 ask
 pub record IsFine (m l : ℕ) (a b : List ℕ) : Type 0 where
   pub short : l ≤ maxTerms
   pub coefficients : Fits m l a b

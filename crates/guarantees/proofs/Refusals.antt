@@ -24,12 +24,10 @@ use Rattle.sequence.specs.Limits.{maxModulus, maxTerms, queryBytes, aBytes, bBy
 use Rattle.sequence.specs.Answers.{refusal}
 use Rattle.sequence.specs.Rules.{IsSound, openOf, pushOf, sequenceOf, checkOf}
 use Rattle.sequence.proofs.Laws.{TermAt, term-check, check-term, check-small, same-number, refused-done, Push, unsound, full, large, done, pushing, push-large, sound-of}
-use Rattle.candidate.specs.declared.Verdict.{Verdict}
 use Rattle.candidate.specs.declared.Verdict.the-variants as W
-use Rattle.candidate.specs.Rules.{aCells, bCells, flawOf, Fits, IsFine, verifyOf, generateOf}
+use Rattle.candidate.specs.Rules.{aCells, bCells, flawOf, IsFine, verifyOf, generateOf}
 use Rattle.candidate.proofs.Laws.{Found, long, unfit, led, fine, found}
-use Rattle.candidate.proofs.Refusals.{flaw-large, told-long, long-told, told-unfit, unfit-told, told-other, other-told, told-malformed, VerifyRefused, verify-query, verify-flaw, verify-refused, generate-flaw, GenerateRefused, generate-refused}
-use Rattle.catalogue.specs.declared.LookedUp.{LookedUp}
+use Rattle.candidate.proofs.Refusals.{flaw-large, told-long, long-told, told-unfit, unfit-told, told-other, other-told, told-malformed, VerifyRefused, verify-query, verify-flaw, verify-refused, generate-flaw, generate-refused}
 use Rattle.catalogue.specs.declared.LookedUp.the-variants as S
 use Rattle.catalogue.specs.Rules.{recordBytes, synthesizeOf, lookUpOf}
 use Rattle.catalogue.proofs.Refusals.{synthesize-query, synthesize-refused, LookUpRefused, look-up-query, look-up-refused, look-up-malformed}

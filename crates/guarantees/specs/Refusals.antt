@@ -12,7 +12,7 @@ use Rattle.sequence.specs.declared.Refusal.{Refusal}
 use Rattle.sequence.specs.declared.Refusal.the-variants as R
 use Rattle.sequence.specs.declared.Outcome.the-variants as O
 use Rattle.sequence.specs.Limits.{maxModulus, maxTerms, queryBytes, aBytes, bBytes}
-use Rattle.sequence.specs.Rules.{IsSound, openOf, pushOf, sequenceOf, checkOf}
+use Rattle.sequence.specs.Rules.{IsSound, openOf, pushOf, checkOf}
 use Rattle.candidate.specs.declared.Verdict.the-variants as W
 use Rattle.candidate.specs.Rules.{aCells, bCells, Fits, IsFine, verifyOf, generateOf}
 use Rattle.catalogue.specs.declared.LookedUp.the-variants as S

@@ -1,6 +1,5 @@
 -- `candidate::first_flaw` meets its contract: each reply is the one that its tests pick.
 -- Assumes nothing.
-use borrow.Author.Needs.{needs}
 use Rattle.candidate.proofs.first_flaw.Statement.{statement}
 use Rattle.candidate.proofs.first_flaw.Tie as tie
 
