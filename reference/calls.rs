@@ -1,30 +1,18 @@
-//! The calls of document 01, and of request A1 in 02, on plain values and byte
-//! buffers.
+//! The calls of document 01, and of requests A1 and A2 in 02, on plain values and
+//! byte buffers.
 //!
 //! "Order where several apply: 5, 21, 1, 2, 22, 3, 4, 6, 23, 24. Each call gives
-//! only those that concern what it is handed." Only the 5 of a sheet comes after 21.
-//! A refused call leaves every lent byte as it was.
+//! only those that concern what it is handed." 25 comes right before 6, 26 right
+//! after it, and only the 5 of a sheet comes after 21. A refused call leaves every
+//! lent byte as it was.
 
 use crate::join::{
     histories, profile as profile_of, register as register_of, register_after, sheet as sheet_of,
     sheet_size, Register,
 };
 use crate::limits::*;
+use crate::refusals::Refusal;
 use crate::steps::{product_coefficient, StepRecord};
-
-/// The number of a refusal.
-pub type Refusal = u32;
-
-pub const BAD_MODULUS: Refusal = 1;
-pub const TOO_MANY: Refusal = 2;
-pub const BAD_TERM: Refusal = 3;
-pub const BAD_PADDING: Refusal = 4;
-pub const BAD_BUFFER: Refusal = 5;
-pub const BAD_CLAIM: Refusal = 6;
-pub const BAD_READING: Refusal = 21;
-pub const FULL: Refusal = 22;
-pub const BAD_SHELF: Refusal = 23;
-pub const BAD_RECORD: Refusal = 24;
 
 /// "A reading is a value: the modulus, the count, and 128 cells of terms, zero
 /// past the count." The fields may hold anything; a bad reading gets 21.
@@ -85,14 +73,17 @@ fn legal_modulus(modulus: u64) -> bool {
     (2..=MODULUS_LIMIT).contains(&modulus)
 }
 
-/// 1, 2, 3, 4 for a modulus, a count and 128 cells. A cell past the count is a
-/// matter of 4, however large it is.
+/// 1, 2, 3, 4 for a modulus, a count and 128 cells. 02, A2: "The range check on
+/// terms now returns the first offending place". A cell past the count is a matter
+/// of 4, however large it is.
 fn check_terms(modulus: u64, count: u64, terms: &[u64]) -> Result<Sequence, Refusal> {
-    demand(legal_modulus(modulus), BAD_MODULUS)?;
-    demand(count <= TERMS_LIMIT as u64, TOO_MANY)?;
+    demand(legal_modulus(modulus), Refusal::Modulus)?;
+    demand(count <= TERMS_LIMIT as u64, Refusal::TooMany)?;
     let (taken, past) = terms.split_at(count as usize);
-    demand(taken.iter().all(|&term| term < modulus), BAD_TERM)?;
-    demand(past.iter().all(|&cell| cell == 0), BAD_PADDING)?;
+    if let Some(place) = taken.iter().position(|&term| term >= modulus) {
+        return Err(Refusal::Term(place));
+    }
+    demand(past.iter().all(|&cell| cell == 0), Refusal::Padding)?;
     Ok(Sequence { modulus, terms: taken.to_vec() })
 }
 
@@ -102,22 +93,23 @@ pub fn check_slip(slip: &[u8]) -> Result<Sequence, Refusal> {
     check_terms(numbers[0], numbers[1], &numbers[2..])
 }
 
-/// 21 for anything that would be 1 to 4 on a slip.
+/// 21 for anything that would be 1 to 4 on a slip; it carries no place.
 fn check_reading(reading: &Reading) -> Result<Sequence, Refusal> {
     let terms: Vec<u64> = reading.terms.iter().map(|&term| u64::from(term)).collect();
     check_terms(u64::from(reading.modulus), u64::from(reading.count), &terms)
-        .map_err(|_| BAD_READING)
+        .map_err(|_| Refusal::Reading)
 }
 
-/// 6: "a claim has l above 128, a coefficient not below m, a nonzero a past l or b
-/// past l-1, or a_0 other than 1".
+/// 25, 6, 26 for a claim. 02, A2: "25 a claim's length is above 128, right before 6;
+/// 26 a_0 is not 1, right after 6; 6 keeps the rest", which is "a coefficient not
+/// below m, a nonzero a past l or b past l-1". So an a_0 not below m is a matter of 6.
 fn check_claim(modulus: u64, a: &[u8], b: &[u8], l: u64) -> Result<Register, Refusal> {
-    demand(l <= TERMS_LIMIT as u64, BAD_CLAIM)?;
+    demand(l <= TERMS_LIMIT as u64, Refusal::ClaimLength)?;
     let claim = Register { length: l as usize, a: cells(a), b: cells(b) };
-    demand(claim.a.iter().chain(&claim.b).all(|&c| c < modulus), BAD_CLAIM)?;
-    demand(claim.a.iter().skip(claim.length + 1).all(|&c| c == 0), BAD_CLAIM)?;
-    demand(claim.b.iter().skip(claim.length).all(|&c| c == 0), BAD_CLAIM)?;
-    demand(claim.a[0] == 1, BAD_CLAIM)?;
+    demand(claim.a.iter().chain(&claim.b).all(|&c| c < modulus), Refusal::Claim)?;
+    demand(claim.a.iter().skip(claim.length + 1).all(|&c| c == 0), Refusal::Claim)?;
+    demand(claim.b.iter().skip(claim.length).all(|&c| c == 0), Refusal::Claim)?;
+    demand(claim.a[0] == 1, Refusal::ClaimStart)?;
     Ok(claim)
 }
 
@@ -131,24 +123,26 @@ pub fn zero_reading() -> Reading {
 /// Opens a reading. "A refused opening hands back a reading of zeros."
 pub fn open(modulus: u32) -> (Reading, Result<(), Refusal>) {
     if !legal_modulus(u64::from(modulus)) {
-        return (zero_reading(), Err(BAD_MODULUS));
+        return (zero_reading(), Err(Refusal::Modulus));
     }
     (Reading { modulus: modulus as u16, ..zero_reading() }, Ok(()))
 }
 
-/// Takes a term: 21, 22, 3. A refused term leaves the reading as it came.
+/// Takes a term: 21, 22, 3, this one with the reading's count. A refused term leaves
+/// the reading as it came.
 pub fn push(reading: &mut Reading, term: u32) -> Result<(), Refusal> {
     let held = check_reading(reading)?;
-    demand(held.terms.len() < TERMS_LIMIT, FULL)?;
-    demand(u64::from(term) < held.modulus, BAD_TERM)?;
-    reading.terms[held.terms.len()] = term as u16;
+    let count = held.terms.len();
+    demand(count < TERMS_LIMIT, Refusal::Full)?;
+    demand(u64::from(term) < held.modulus, Refusal::Term(count))?;
+    reading.terms[count] = term as u16;
     reading.count += 1;
     Ok(())
 }
 
 /// Reports the register and returns l: 5, 21.
 pub fn register(reading: &Reading, a: &mut [u8], b: &mut [u8]) -> Result<usize, Refusal> {
-    demand(a.len() == A_BYTES && b.len() == B_BYTES, BAD_BUFFER)?;
+    demand(a.len() == A_BYTES && b.len() == B_BYTES, Refusal::Buffer)?;
     let held = check_reading(reading)?;
     Ok(write_register(&register_of(held.modulus, &held.terms), a, b))
 }
@@ -170,11 +164,11 @@ pub fn trace(
     b: &mut [u8],
     sheet: &mut [StepRecord],
 ) -> Result<usize, Refusal> {
-    demand(a.len() == A_BYTES, BAD_BUFFER)?;
-    demand(b.len() == B_BYTES, BAD_BUFFER)?;
+    demand(a.len() == A_BYTES, Refusal::Buffer)?;
+    demand(b.len() == B_BYTES, Refusal::Buffer)?;
     let held = check_reading(reading)?;
     let n = held.terms.len();
-    demand(sheet.len() >= sheet_size(held.modulus, n), BAD_BUFFER)?;
+    demand(sheet.len() >= sheet_size(held.modulus, n), Refusal::Buffer)?;
     let histories = histories(held.modulus, &held.terms);
     let records = sheet_of(&histories);
     sheet[..records.len()].copy_from_slice(&records);
@@ -183,7 +177,7 @@ pub fn trace(
 
 /// Reports the profile, zero past n: 5, 21.
 pub fn profile(reading: &Reading, buffer: &mut [u8]) -> Result<(), Refusal> {
-    demand(buffer.len() == PROFILE_BYTES, BAD_BUFFER)?;
+    demand(buffer.len() == PROFILE_BYTES, Refusal::Buffer)?;
     let held = check_reading(reading)?;
     let mut lengths: Vec<u64> =
         profile_of(held.modulus, &held.terms).into_iter().map(|l| l as u64).collect();
@@ -194,10 +188,10 @@ pub fn profile(reading: &Reading, buffer: &mut [u8]) -> Result<(), Refusal> {
 
 // ---- testing and running ----
 
-/// Tests a claim against a slip: 5, then 1 to 4, then 6.
+/// Tests a claim against a slip: 5, then 1 to 4, then 25, 6, 26.
 pub fn verify(slip: &[u8], a: &[u8], b: &[u8], l: u32) -> Result<Verdict, Refusal> {
     let right = slip.len() == SLIP_BYTES && a.len() == A_BYTES && b.len() == B_BYTES;
-    demand(right, BAD_BUFFER)?;
+    demand(right, Refusal::Buffer)?;
     let sequence = check_slip(slip)?;
     let claim = check_claim(sequence.modulus, a, b, u64::from(l))?;
     Ok(verdict(&sequence, &claim))
@@ -212,7 +206,7 @@ pub fn verdict(sequence: &Sequence, claim: &Register) -> Verdict {
     (0..sequence.terms.len()).find(differs).map_or(Verdict::Yes, Verdict::No)
 }
 
-/// Runs a claim: 5 (a, b, odd bytes), 1, 2 (cells), 6.
+/// Runs a claim: 5 (a, b, odd bytes), 1, 2 (cells), 25, 6, 26.
 pub fn generate(
     modulus: u32,
     a: &[u8],
@@ -221,10 +215,10 @@ pub fn generate(
     buffer: &mut [u8],
 ) -> Result<(), Refusal> {
     let even = buffer.len() % CELL_BYTES == 0;
-    demand(a.len() == A_BYTES && b.len() == B_BYTES && even, BAD_BUFFER)?;
+    demand(a.len() == A_BYTES && b.len() == B_BYTES && even, Refusal::Buffer)?;
     let count = buffer.len() / CELL_BYTES;
-    demand(legal_modulus(u64::from(modulus)), BAD_MODULUS)?;
-    demand(count <= TERMS_LIMIT, TOO_MANY)?;
+    demand(legal_modulus(u64::from(modulus)), Refusal::Modulus)?;
+    demand(count <= TERMS_LIMIT, Refusal::TooMany)?;
     let claim = check_claim(u64::from(modulus), a, b, u64::from(l))?;
     write_cells(buffer, &outputs(u64::from(modulus), &claim, count));
     Ok(())
@@ -261,7 +255,7 @@ pub fn record_with(slip: &[u8], register: &Register) -> Vec<u8> {
 
 /// Makes a record from a slip: 5 (slip, record), 1 to 4.
 pub fn synthesize(slip: &[u8], record: &mut [u8]) -> Result<(), Refusal> {
-    demand(slip.len() == SLIP_BYTES && record.len() == RECORD_BYTES, BAD_BUFFER)?;
+    demand(slip.len() == SLIP_BYTES && record.len() == RECORD_BYTES, Refusal::Buffer)?;
     let sequence = check_slip(slip)?;
     record.copy_from_slice(&record_of(slip, &sequence));
     Ok(())
@@ -271,9 +265,9 @@ pub fn synthesize(slip: &[u8], record: &mut [u8]) -> Result<(), Refusal> {
 /// for the first record whose first 260 bytes equal the slip's"; the first match
 /// alone decides.
 pub fn look_up(slip: &[u8], shelf: &[u8], record: &mut [u8]) -> Result<Served, Refusal> {
-    demand(slip.len() == SLIP_BYTES && record.len() == RECORD_BYTES, BAD_BUFFER)?;
+    demand(slip.len() == SLIP_BYTES && record.len() == RECORD_BYTES, Refusal::Buffer)?;
     let sequence = check_slip(slip)?;
-    demand(shelf.len() % RECORD_BYTES == 0, BAD_SHELF)?;
+    demand(shelf.len() % RECORD_BYTES == 0, Refusal::Shelf)?;
     let mut records = shelf.chunks_exact(RECORD_BYTES);
     match records.position(|entry| entry[..SLIP_BYTES] == *slip) {
         None => {
@@ -290,12 +284,12 @@ pub fn look_up(slip: &[u8], shelf: &[u8], record: &mut [u8]) -> Result<Served, R
 }
 
 /// 24: "the record found is a bad claim (as in 6) or its test against the slip
-/// says no".
+/// says no". 02, A2: "24 covers all three", 25, 6 and 26.
 fn check_record(sequence: &Sequence, record: &[u8]) -> Result<(), Refusal> {
     let l = cells(&record[RECORD_LENGTH_AT..RECORD_A_AT])[0];
     let (a, b) = (&record[RECORD_A_AT..RECORD_B_AT], &record[RECORD_B_AT..]);
-    let claim = check_claim(sequence.modulus, a, b, l).map_err(|_| BAD_RECORD)?;
-    demand(verdict(sequence, &claim) == Verdict::Yes, BAD_RECORD)
+    let claim = check_claim(sequence.modulus, a, b, l).map_err(|_| Refusal::Record)?;
+    demand(verdict(sequence, &claim) == Verdict::Yes, Refusal::Record)
 }
 
 /// A modulus and terms as a slip; more than 128 terms are not written.

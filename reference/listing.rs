@@ -1,8 +1,9 @@
 //! The listing of 01: slips in, one line of text for each out.
 
-use crate::calls::{check_slip, Refusal, Sequence, BAD_BUFFER};
+use crate::calls::{check_slip, Sequence};
 use crate::join::{register, Register};
 use crate::limits::SLIP_BYTES;
+use crate::refusals::Refusal;
 
 pub const HEADER: &str = "modulus count order register";
 
@@ -18,7 +19,7 @@ pub fn for_each_slip(slips: &[u8], entry: impl Fn(&Sequence) -> String) -> Strin
     for piece in slips.chunks(SLIP_BYTES) {
         match checked(piece) {
             Ok(sequence) => text.push_str(&entry(&sequence)),
-            Err(number) => text.push_str(&format!("refused {number}")),
+            Err(refusal) => text.push_str(&refusal.to_string()),
         }
         text.push('\n');
     }
@@ -28,7 +29,7 @@ pub fn for_each_slip(slips: &[u8], entry: impl Fn(&Sequence) -> String) -> Strin
 /// 5 for a last piece that is cut short, then 1 to 4.
 fn checked(piece: &[u8]) -> Result<Sequence, Refusal> {
     if piece.len() != SLIP_BYTES {
-        return Err(BAD_BUFFER);
+        return Err(Refusal::Buffer);
     }
     check_slip(piece)
 }

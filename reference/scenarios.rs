@@ -7,7 +7,8 @@ use crate::limits::*;
 use crate::random::Random;
 use crate::script::{line, Call, Operation};
 use crate::sequences::{
-    any_slip, count, damage, good_slip, modulus, register, set_cell, structured, terms, uniform,
+    any_slip, count, damage, good_slip, modulus, not_below, register, set_cell, structured, terms,
+    uniform,
 };
 
 /// Numbers that no modulus, term or length may be; the last ones would pass if
@@ -86,6 +87,10 @@ fn list(random: &mut Random) -> Vec<Call> {
         while random.once_in(8) {
             let call = side_call(random, m, &list.held);
             list.add(call);
+        }
+        // 3 with its least and its largest place, and 22 before 3.
+        if [0, 127, 128].contains(&list.held.count) && random.once_in(2) {
+            list.add(wrong_term(random, m));
         }
         list.add(plain(random, Operation::Push, term as u32, [0; 3]));
     }
@@ -182,12 +187,15 @@ fn side_call(random: &mut Random, m: u64, held: &Reading) -> Call {
             plain(random, Operation::Profile, 0, lengths)
         }
         70..=99 => tracing(random, held),
-        _ => {
-            let low = m as u32;
-            let term = random.pick(&[low, low + 1, 65535, 65536, 65537, low + 65536, u32::MAX]);
-            plain(random, Operation::Push, term, [0; 3])
-        }
+        _ => wrong_term(random, m),
     }
+}
+
+/// A term that is out of range; some would not be if they were cut to two bytes.
+fn wrong_term(random: &mut Random, m: u64) -> Call {
+    let low = m as u32;
+    let term = random.pick(&[low, low + 1, 65535, 65536, 65537, low + 65536, u32::MAX]);
+    plain(random, Operation::Push, term, [0; 3])
 }
 
 /// A reading that is good, damaged, or plain noise.
@@ -205,13 +213,35 @@ fn forge(random: &mut Random) -> Call {
 
 // ---- candidates for testing and running ----
 
-/// A slip, and a claim to hold against it or to run.
-struct Candidate {
-    m: u64,
-    slip: Vec<u8>,
-    a: Vec<u8>,
-    b: Vec<u8>,
-    l: u32,
+/// A slip, and a claim to hold against it, to run, or to put on a shelf.
+pub struct Candidate {
+    pub m: u64,
+    pub slip: Vec<u8>,
+    pub a: Vec<u8>,
+    pub b: Vec<u8>,
+    pub l: u32,
+}
+
+impl Candidate {
+    fn of(m: u64, terms: &[u64], register: &Register) -> Candidate {
+        Candidate {
+            m,
+            slip: slip_of(m, terms),
+            a: cells_of(&register.a),
+            b: cells_of(&register.b),
+            l: register.length as u32,
+        }
+    }
+
+    /// l where two bytes must hold it; above 128 stays above 128.
+    fn short_l(&self) -> u16 {
+        self.l.min(65535) as u16
+    }
+
+    /// The slip and the claim as a record.
+    pub fn record(&self) -> Vec<u8> {
+        [&self.slip[..], &self.short_l().to_le_bytes(), &self.a, &self.b].concat()
+    }
 }
 
 /// `candidates SEED COUNT`: that many testings and runnings.
@@ -220,7 +250,7 @@ pub fn candidates(seed: u64, count: u64) -> Vec<u8> {
     let mut script = Vec::new();
     for _ in 0..count {
         let candidate = candidate(&mut random);
-        let call = if random.once_in(3) {
+        let call = if random.once_in(2) {
             running(&mut random, candidate)
         } else {
             testing(&mut random, candidate)
@@ -230,21 +260,15 @@ pub fn candidates(seed: u64, count: u64) -> Vec<u8> {
     script
 }
 
-fn candidate(random: &mut Random) -> Candidate {
+pub fn candidate(random: &mut Random) -> Candidate {
     let m = modulus(random);
     let n = count(random);
     let (terms, register) = claim(random, m, n);
-    let mut candidate = Candidate {
-        m,
-        slip: slip_of(m, &terms),
-        a: cells_of(&register.a),
-        b: cells_of(&register.b),
-        l: register.length as u32,
-    };
-    if random.once_in(3) {
+    let mut candidate = Candidate::of(m, &terms, &register);
+    if random.once_in(2) {
         spoil(random, &mut candidate);
     }
-    if random.once_in(12) {
+    if random.once_in(6) {
         damage(random, &mut candidate.slip);
     }
     candidate
@@ -262,7 +286,7 @@ fn claim(random: &mut Random, m: u64, n: usize) -> (Vec<u64>, Register) {
             let terms = terms(random, m, n);
             let mut register = register_of(m, &terms);
             if random.once_in(3) {
-                register.length = random.between(register.length as u64, 128) as usize;
+                lengthen(random, &mut register);
             }
             (terms, register)
         }
@@ -297,6 +321,11 @@ fn run_of_its_own(random: &mut Random, m: u64, n: usize) -> (Vec<u64>, Register)
     (outputs(m, &register, n), register)
 }
 
+/// A claim may be longer than its degrees.
+fn lengthen(random: &mut Random, register: &mut Register) {
+    register.length = random.between(register.length as u64, TERMS_LIMIT as u64) as usize;
+}
+
 /// "a = 1 with l = n and b = S. It generates, and is seldom least."
 fn trivial(terms: &[u64]) -> Register {
     let mut register = Register { length: terms.len(), a: vec![0; A_CELLS], b: terms.to_vec() };
@@ -305,34 +334,90 @@ fn trivial(terms: &[u64]) -> Register {
     register
 }
 
-/// Changes a claim in one place, so that it is bad or generates other terms.
+/// Puts faults into a claim, each of 25, 6 and 26 alone and before the next, or changes
+/// it so that it generates other terms.
 fn spoil(random: &mut Random, candidate: &mut Candidate) {
-    let l = candidate.l as usize;
-    let low = candidate.m as u16;
-    let value = random.pick(&[1, low - 1, low, low.saturating_add(1), 256, 65535]);
-    match random.below(8) {
-        0 => candidate.l = random.pick(&[129, 130, 255, 256, 65535, 65536, 65537, u32::MAX]),
+    match random.below(18) {
+        0 => too_long(random, candidate),
         1 => {
-            let wrong = random.pick(&[0, 2, low, 257, 65535]);
-            set_cell(&mut candidate.a, 0, wrong);
+            // Nothing is past a length above 128, so this is the one 6 that is left.
+            out_of_range(random, candidate);
+            too_long(random, candidate);
         }
-        2 if l < A_CELLS - 1 => set_cell(&mut candidate.a, l + 1, value),
-        3 if l < B_CELLS => set_cell(&mut candidate.b, l, value),
-        4 => {
-            let place = random.place(A_CELLS);
-            set_cell(&mut candidate.a, place, value);
+        2 => {
+            wrong_start(random, candidate);
+            too_long(random, candidate);
         }
-        5 => {
-            let place = random.place(B_CELLS);
-            set_cell(&mut candidate.b, place, value);
+        3..=5 => out_of_range(random, candidate),
+        6..=8 => past_the_end(random, candidate),
+        9..=10 => start_out_of_range(random, candidate),
+        11 => {
+            wrong_start(random, candidate);
+            out_of_range(random, candidate);
         }
-        6 if l > 0 => {
-            let other = random.below(candidate.m) as u16;
-            let place = random.between(1, l as u64) as usize;
-            set_cell(&mut candidate.a, place, other);
+        12 => {
+            wrong_start(random, candidate);
+            past_the_end(random, candidate);
         }
-        7 if l > 0 => candidate.l -= 1,
-        _ => {}
+        13..=15 => wrong_start(random, candidate),
+        16 => change(random, candidate),
+        _ => candidate.l = candidate.l.saturating_sub(1),
+    }
+}
+
+/// 25. The last ones would pass if they were cut to two bytes.
+fn too_long(random: &mut Random, candidate: &mut Candidate) {
+    candidate.l = random.pick(&[129, 130, 255, 256, 65535, 65536, 65537, u32::MAX]);
+}
+
+/// 26: an a_0 below m that is not 1.
+fn wrong_start(random: &mut Random, candidate: &mut Candidate) {
+    let m = candidate.m as u16;
+    let wrong: Vec<u16> =
+        [0, 2, m - 1, 257].into_iter().filter(|&start| start != 1 && start < m).collect();
+    set_cell(&mut candidate.a, 0, random.pick(&wrong));
+}
+
+/// 6 and not 26, though some of these are 1 modulo m.
+fn start_out_of_range(random: &mut Random, candidate: &mut Candidate) {
+    let wrong = not_below(random, candidate.m as u16);
+    set_cell(&mut candidate.a, 0, wrong);
+}
+
+/// The cells of a from 1 on, or all of b: the first l of them belong to the claim, and
+/// there are 128.
+fn either<'a>(random: &mut Random, candidate: &'a mut Candidate) -> &'a mut [u8] {
+    if random.once_in(2) {
+        &mut candidate.a[CELL_BYTES..]
+    } else {
+        &mut candidate.b
+    }
+}
+
+/// 6: a coefficient that is not below m, within the length if it has room.
+fn out_of_range(random: &mut Random, candidate: &mut Candidate) {
+    let wrong = not_below(random, candidate.m as u16);
+    let place = random.place(candidate.l as usize);
+    set_cell(either(random, candidate), place, wrong);
+}
+
+/// 6: "a nonzero a past l or b past l-1", where there is such a place.
+fn past_the_end(random: &mut Random, candidate: &mut Candidate) {
+    let (l, low) = (candidate.l as usize, candidate.m as u16);
+    if l < TERMS_LIMIT {
+        let any = l + random.place(TERMS_LIMIT - l);
+        let place = random.pick(&[l, any, TERMS_LIMIT - 1]);
+        let wrong = random.pick(&[1, 1, low - 1, low - 1, low, 256, 65535]);
+        set_cell(either(random, candidate), place, wrong);
+    }
+}
+
+/// Another coefficient that is below m; the claim stays well formed.
+fn change(random: &mut Random, candidate: &mut Candidate) {
+    if candidate.l > 0 {
+        let other = random.below(candidate.m) as u16;
+        let place = random.place(candidate.l as usize);
+        set_cell(either(random, candidate), place, other);
     }
 }
 
@@ -357,7 +442,7 @@ fn running(random: &mut Random, candidate: Candidate) -> Call {
     let lengths = [nearly(random, A_BYTES), nearly(random, B_BYTES), cells];
     let m = if random.once_in(12) { random.pick(&WILD_MODULI) } else { candidate.m as u32 };
     let mut call = plain(random, Operation::Generate, m, lengths);
-    call.l = candidate.l.min(65535) as u16;
+    call.l = candidate.short_l();
     call.payload = fitted(&candidate.a, lengths[0]);
     call.payload.extend(fitted(&candidate.b, lengths[1]));
     call
@@ -378,7 +463,10 @@ pub fn catalogues(seed: u64, count: u64) -> Vec<u8> {
 }
 
 fn making(random: &mut Random) -> Call {
-    let slip = any_slip(random);
+    let mut slip = any_slip(random);
+    if random.once_in(2) {
+        damage(random, &mut slip);
+    }
     let lengths = [nearly(random, SLIP_BYTES), nearly(random, RECORD_BYTES), 0];
     let mut call = plain(random, Operation::Synthesize, 0, lengths);
     call.payload = fitted(&slip, lengths[0]);
@@ -391,7 +479,7 @@ fn serving(random: &mut Random) -> Call {
     let query = (m, terms(random, m, n));
     let mut slip = slip_of(m, &query.1);
     let shelf = shelf(random, &query);
-    if random.once_in(12) {
+    if random.once_in(4) {
         damage(random, &mut slip);
     }
     let shelf_length = match random.below(16) {
@@ -411,13 +499,13 @@ fn serving(random: &mut Random) -> Call {
 /// bytes can say.
 fn shelf(random: &mut Random, query: &(u64, Vec<u64>)) -> Vec<u8> {
     let records = match random.below(20) {
-        0..=3 => 0,
-        4 => 84,
-        5 => random.between(8, 83),
+        0..=2 => 0,
+        3 => 84,
+        4 => random.between(8, 83),
         _ => random.between(1, 6),
     };
     // On a long shelf the matches are rare, so that they stand at high numbers too.
-    let rare = if records > 8 { records } else { 3 };
+    let rare = if records > 8 { records } else { 2 };
     let mut shelf = Vec::new();
     for _ in 0..records {
         let record = if random.once_in(rare) {
@@ -437,31 +525,20 @@ fn made(m: u64, terms: &[u64]) -> Vec<u8> {
 /// A record whose first 260 bytes are the query's: as made, with another good
 /// candidate, with a bad one, or with one that fails its test.
 fn matching(random: &mut Random, (m, terms): &(u64, Vec<u64>)) -> Vec<u8> {
-    let mut record = made(*m, terms);
-    match random.below(10) {
-        0 => record = record_with(&slip_of(*m, terms), &trivial(terms)),
-        1 => {
-            let wrong = random.pick(&[0, 1, 127, 128, 129, 256, 65535]);
-            set_cell(&mut record[RECORD_LENGTH_AT..], 0, wrong);
-        }
-        2 => {
-            let place = random.place(A_CELLS);
-            let wrong = random.pick(&[0, 1, 2, *m as u16, 65535]);
-            set_cell(&mut record[RECORD_A_AT..], place, wrong);
-        }
-        3 => {
-            let place = random.place(terms.len().max(1));
-            let wrong = random.pick(&[0, 1, *m as u16 - 1, *m as u16, 256]);
-            set_cell(&mut record[RECORD_B_AT..], place, wrong);
-        }
-        4 => {
-            let place = random.place(1 + terms.len());
-            let wrong = random.below(*m) as u16;
-            set_cell(&mut record[RECORD_A_AT..], place, wrong);
-        }
+    let mut register = register_of(*m, terms);
+    let kind = random.below(10);
+    match kind {
+        0 => register = trivial(terms),
+        1 => lengthen(random, &mut register),
         _ => {}
     }
-    record
+    let mut candidate = Candidate::of(*m, terms, &register);
+    match kind {
+        2 => change(random, &mut candidate),
+        3..=7 => spoil(random, &mut candidate),
+        _ => {}
+    }
+    candidate.record()
 }
 
 /// A record of another slip: near to the query's or far from it.

@@ -1,7 +1,8 @@
 //! The byte script of calls, and its replay as text. README.md has the format.
 
-use crate::calls::{self, Reading, Refusal, Served, Verdict};
+use crate::calls::{self, Reading, Served, Verdict};
 use crate::limits::{SHEET_LIMIT, SLIP_BYTES};
+use crate::refusals::Refusal;
 use crate::steps::StepRecord;
 
 pub const HEADER_BYTES: usize = 16;
@@ -95,7 +96,7 @@ impl Call {
     }
 
     /// The three buffers as they are lent.
-    fn buffers(&self) -> [Vec<u8>; 3] {
+    pub fn buffers(&self) -> [Vec<u8>; 3] {
         let held = Call::in_payload(self.operation);
         let mut at = 0;
         let mut buffers = [Vec::new(), Vec::new(), Vec::new()];
@@ -168,7 +169,7 @@ pub fn line(call: &Call, reading: &mut Reading) -> String {
     let mut buffers = call.buffers();
     let reply = match perform(call, reading, &mut buffers) {
         Ok(reply) => reply,
-        Err(number) => format!("refused {number}"),
+        Err(refusal) => refusal.to_string(),
     };
     let [first, second, third] = &buffers;
     let held = reading_bytes(reading);

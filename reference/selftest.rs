@@ -4,11 +4,15 @@ use crate::calls::*;
 use crate::cases;
 use crate::checks::{group, Group};
 use crate::compact;
+use crate::coverage;
+use crate::faults;
 use crate::join::{self, Register};
 use crate::limits::*;
 use crate::linear;
 use crate::listing::listing;
+use crate::orders;
 use crate::random::Random;
+use crate::refusals::Refusal;
 use crate::residue::{inverse, prime_powers};
 use crate::scenarios;
 use crate::script::replay;
@@ -18,12 +22,13 @@ use crate::steps::{self, coefficient, length, Pair};
 
 /// True if every group passes.
 pub fn selftest() -> bool {
-    let groups: [(&str, fn(&mut Group)); 21] = [
+    let groups: [(&str, fn(&mut Group)); 25] = [
         ("cases 1 to 15", cases::cases),
         ("tables 1 and 2 of 000", cases::tables),
         ("sheets and their text by hand", cases::sheets_by_hand),
         ("registers named in the papers", cases::named_registers),
-        ("orders of refusals", cases::refusals),
+        ("refusals, every set of faults of each call", orders::orders),
+        ("refusals, each kind of fault and each place", orders::kinds),
         ("inverses, prime powers, remainders", arithmetic),
         ("rows of the steps keep their congruence", rows),
         ("full history and compact version agree", versions),
@@ -34,6 +39,9 @@ pub fn selftest() -> bool {
         ("reported registers", registers),
         ("lists of calls, making and serving", desk),
         ("scripts and listing", scripts),
+        ("random slips, where they are wrong", faults::slips),
+        ("random claims, how they are bad", faults::claims),
+        ("scripts and slips meet every refusal", coverage::met),
         ("sheets applied give the register", sheets::applied),
         ("sheets applied, moduli to 65,535", sheets::applied_wide),
         ("sheets keep the rules of the steps", sheets::rules),
@@ -242,9 +250,10 @@ fn report_after_calls(group: &mut Group, m: u64, terms: &[u64]) -> (u32, Vec<u8>
     let (mut reading, opened) = open(m as u32);
     group.check(opened.is_ok(), words);
     let (mut a, mut b) = (vec![0xa5; A_BYTES], vec![0x5a; B_BYTES]);
-    for &term in terms {
-        group.check(push(&mut reading, m as u32 + term as u32) == Err(BAD_TERM), words);
-        group.check(register(&reading, &mut a[1..], &mut b) == Err(BAD_BUFFER), words);
+    for (i, &term) in terms.iter().enumerate() {
+        let refused = push(&mut reading, m as u32 + term as u32);
+        group.check(refused == Err(Refusal::Term(i)), words);
+        group.check(register(&reading, &mut a[1..], &mut b) == Err(Refusal::Buffer), words);
         group.check(push(&mut reading, term as u32).is_ok(), words);
     }
     group.check(a == [0xa5; A_BYTES] && b == [0x5a; B_BYTES], words);

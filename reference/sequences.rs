@@ -183,21 +183,25 @@ pub fn good_slip(random: &mut Random) -> Vec<u8> {
 /// A slip that is mostly good.
 pub fn any_slip(random: &mut Random) -> Vec<u8> {
     let mut slip = good_slip(random);
-    if random.once_in(6) {
+    if random.once_in(5) {
         damage(random, &mut slip);
-        // Two faults at once show the order of the refusals.
-        if random.once_in(3) {
-            damage(random, &mut slip);
-        }
     }
     slip
 }
 
-/// Puts one fault into a slip, where there is room for it.
+/// Puts a kind of fault into a slip, sometimes two: these show the order of the refusals.
 pub fn damage(random: &mut Random, slip: &mut [u8]) {
+    put_fault(random, slip);
+    if random.once_in(3) {
+        put_fault(random, slip);
+    }
+}
+
+/// Puts one kind of fault into a slip, where there is room for it.
+fn put_fault(random: &mut Random, slip: &mut [u8]) {
     let modulus = u16::from_le_bytes([slip[0], slip[1]]);
-    let count = u16::from_le_bytes([slip[2], slip[3]]) as usize;
-    match random.below(4) {
+    let count = usize::from(u16::from_le_bytes([slip[2], slip[3]])).min(TERMS_LIMIT);
+    match random.below(8) {
         0 => {
             let wrong = random.pick(&[0, 1, 4096, 4097, 65535]);
             set_cell(slip, 0, wrong);
@@ -206,19 +210,41 @@ pub fn damage(random: &mut Random, slip: &mut [u8]) {
             let wrong = random.pick(&[129, 130, 255, 256, 257, 384, 65535]);
             set_cell(slip, 1, wrong);
         }
-        2 if count > 0 => {
-            let place = random.place(count.min(TERMS_LIMIT));
-            let wrong = random.pick(&[modulus, modulus.saturating_add(1), 65535]);
-            set_cell(slip, 2 + place, wrong);
+        2..=5 if count > 0 => {
+            for place in wrong_places(random, count) {
+                let wrong = not_below(random, modulus);
+                set_cell(slip, 2 + place, wrong);
+            }
         }
-        3 if count < TERMS_LIMIT => {
-            let place = random.between(count as u64, TERMS_LIMIT as u64 - 1) as usize;
+        6..=7 if count < TERMS_LIMIT => {
+            let any = random.between(count as u64, TERMS_LIMIT as u64 - 1) as usize;
+            let place = random.pick(&[count, any, any, TERMS_LIMIT - 1]);
             let bit = 1 << random.below(16);
-            let wrong = random.pick(&[bit, 1, 256, 65535]);
+            let wrong = random.pick(&[bit, 1, 256, modulus, 65535]);
             set_cell(slip, 2 + place, wrong);
         }
         _ => {}
     }
+}
+
+/// Places for terms out of range, of which 3 tells the first: one at the start, at the
+/// end or anywhere, or several, so that the first is not the last.
+fn wrong_places(random: &mut Random, count: usize) -> Vec<usize> {
+    let any = random.place(count);
+    match random.below(8) {
+        0 => vec![0],
+        1..=2 => vec![count - 1],
+        3..=4 => vec![any],
+        5 => (any..count).collect(),
+        _ => (0..random.between(2, 4)).map(|_| random.place(count)).collect(),
+    }
+}
+
+/// A number that is not below the modulus; its low byte alone may well be.
+pub fn not_below(random: &mut Random, modulus: u16) -> u16 {
+    let any = random.between(u64::from(modulus), 65535) as u16;
+    let high = (any & 0xff00).max(modulus);
+    random.pick(&[modulus, modulus, modulus.saturating_add(1), any, high, 65535])
 }
 
 pub fn set_cell(bytes: &mut [u8], cell: usize, value: u16) {

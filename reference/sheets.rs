@@ -9,6 +9,7 @@ use crate::join;
 use crate::limits::*;
 use crate::listing::listing;
 use crate::random::Random;
+use crate::refusals::Refusal;
 use crate::residue::{prime_powers, PrimePower};
 use crate::scenarios;
 use crate::script::{hash, record_bytes, replay, Call, Operation};
@@ -180,7 +181,7 @@ pub fn tracings(group: &mut Group) {
             let less = random.pick(&[0, any, sheet.len() - 1]);
             let kept = vec![StepRecord::of([LENT; 8]); less];
             let traced = trace_into(&reading, less, fill);
-            let lent = (Err(BAD_BUFFER), [fill; A_BYTES], [fill; B_BYTES], kept);
+            let lent = (Err(Refusal::Buffer), [fill; A_BYTES], [fill; B_BYTES], kept);
             group.check(traced == lent, words);
         }
     }
