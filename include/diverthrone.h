@@ -7,20 +7,22 @@
  * A record is 776 bytes: the query (0..259), the length (260), a (262..519), b (520..775). A catalogue is records end to end.
  *
  * Replies. Every function answers refusal + 256 * value; take them apart with diverthrone_refusal and diverthrone_value.
- * On a refusal every lent buffer holds what it held.
+ * On a refusal every lent buffer holds what it held. With refusal 3 the value is a place, with every other refusal it is 0.
  *
  *    refusal  meaning
  *       0     none
  *       1     the modulus is below 2 or above 4,095
  *       2     the count of terms, or of cells to run, is above 128
- *       3     one of the terms is not below the modulus
+ *       3     one of the query's terms is not below the modulus; the value is the place of the first of them, counted from 0
  *       4     the query holds something other than zero past its count
  *       5     a lent buffer has another length than stated, or the cells to run are an odd number of bytes
- *       6     a candidate has a length above 128, a coefficient not below m, a nonzero one past its end, or a_0 other than 1
+ *       6     a candidate has a coefficient not below m, or a nonzero one past its end (a past the length, b from the length on)
  *      23     the catalogue's length is not a multiple of 776
- *      24     the record found is malformed (as in 6) or does not pass the test against the query
+ *      24     the record found is malformed (as in 25, 6, 26) or does not pass the test against the query
+ *      25     a candidate's length is above 128
+ *      26     a candidate's a_0 is not 1 (if it is not below m, 6 comes first)
  *
- * Where several apply the first of 5, 1, 2, 3, 4, 6, 23, 24 is given.
+ * Where several apply the first is given, in the order that each function states.
  *
  * What the caller must grant. Each pointer is valid for its length; with length 0 it may be NULL or any address.
  * A written buffer overlaps no other buffer of the same call. Nothing else: any bytes, any lengths.
@@ -46,19 +48,23 @@ extern "C" {
 #define DIVERTHRONE_A_PLACE 262
 #define DIVERTHRONE_B_PLACE 520
 
-/* Makes the record of a query: its shortest register. Value 0. */
+/* Makes the record of a query: its shortest register. Value 0.
+ * Refusals in order: 5 (query, record), 1, 2, 3, 4. */
 uint64_t diverthrone_synthesize(const uint8_t *query, size_t query_len, uint8_t *record, size_t record_len);
 
 /* Looks a query up in a catalogue by all of its 260 bytes. The first record with this query goes out if its register passes the test;
- * if there is none, a record is made. Value: 0 for a record made, 1 + its place for one found, counted from 0. */
+ * if there is none, a record is made. Value: 0 for a record made, 1 + its place for one found, counted from 0.
+ * Refusals in order: 5 (query, record), 1, 2, 3, 4, 23, 24. */
 uint64_t diverthrone_look_up(const uint8_t *query, size_t query_len, const uint8_t *catalogue, size_t catalogue_len, uint8_t *record,
                              size_t record_len);
 
-/* Tests a candidate register of this length against a query. Value: 0 for yes, 1 + the first place where the product and b differ for no. */
+/* Tests a candidate register of this length against a query. Value: 0 for yes, 1 + the first place where the product and b differ for no.
+ * Refusals in order: 5 (query, a, b), 1, 2, 3, 4, 25, 6, 26. */
 uint64_t diverthrone_verify(const uint8_t *query, size_t query_len, const uint8_t *a, size_t a_len, const uint8_t *b, size_t b_len,
                             uint32_t length);
 
-/* Runs a candidate register: fills the whole lent buffer of at most 128 cells with the terms that it generates. Value 0. */
+/* Runs a candidate register: fills the whole lent buffer of at most 128 cells with the terms that it generates. Value 0.
+ * Refusals in order: 5 (a, b, an odd number of bytes), 1, 2, 25, 6, 26. */
 uint64_t diverthrone_generate(uint32_t modulus, const uint8_t *a, size_t a_len, const uint8_t *b, size_t b_len, uint32_t length,
                               uint8_t *cells, size_t cells_len);
 

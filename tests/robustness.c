@@ -151,11 +151,13 @@ static uint32_t hash(const uint8_t *s, size_t len) {
     return state;
 }
 
-/* A value where there should be none is written out, so that the comparison finds it. */
+/* With refusal 3 the value is a place. A value where there should be none is written out, so that the comparison finds it. */
 static void print_reply(unsigned op, uint64_t reply) {
     unsigned refusal = diverthrone_refusal(reply);
     unsigned long long value = diverthrone_value(reply);
-    if (refusal != 0 && value != 0)
+    if (refusal == 3)
+        printf("%s refused 3 at %llu", names[op], value);
+    else if (refusal != 0 && value != 0)
         printf("%s refused %u with the value %llu", names[op], refusal, value);
     else if (refusal != 0)
         printf("%s refused %u", names[op], refusal);
@@ -254,16 +256,39 @@ static void one_cell(struct call *c) {
     set_cell(c->bytes[i], at, pick(values, sizeof values / sizeof *values));
 }
 
-/* Another legal term anywhere in the sequence: a test that passed then fails there. Often the records of the same query follow. */
-static void one_term(struct call *c) {
-    if (c->op == GENERATE || c->len[0] != QUERY) return;
-    uint32_t m = modulus(c), n = cell(c->bytes[0], 1);
-    if (m == 0 || n == 0 || n > 128) return;
-    size_t at = 2 + below(n), records = c->op == LOOK_UP && below(2) ? c->len[1] / RECORD : 0;
-    uint32_t term = below(m);
+/* The terms that a query has, 0 where it cannot be one. */
+static uint32_t terms_of(const struct call *c) {
+    if (c->op == GENERATE || c->len[0] != QUERY) return 0;
+    uint32_t n = cell(c->bytes[0], 1);
+    return modulus(c) == 0 || n > 128 ? 0 : n;
+}
+
+/* Often the records of the same query follow. */
+static void set_term(struct call *c, size_t place, uint32_t term) {
+    size_t records = c->op == LOOK_UP && below(2) ? c->len[1] / RECORD : 0;
     for (size_t i = 0; i < records; i++)
-        if (memcmp(c->bytes[1] + i * RECORD, c->bytes[0], QUERY) == 0) set_cell(c->bytes[1] + i * RECORD, at, term);
-    set_cell(c->bytes[0], at, term);
+        if (memcmp(c->bytes[1] + i * RECORD, c->bytes[0], QUERY) == 0) set_cell(c->bytes[1] + i * RECORD, 2 + place, term);
+    set_cell(c->bytes[0], 2 + place, term);
+}
+
+/* Another legal term anywhere in the sequence: a test that passed then fails there. */
+static void one_term(struct call *c) {
+    uint32_t n = terms_of(c);
+    if (n == 0) return;
+    size_t place = below(n);
+    set_term(c, place, below(modulus(c)));
+}
+
+/* One or more terms that are not below the modulus, with more than their share at the ends: the first of them is told. */
+static void wrong_terms(struct call *c) {
+    uint32_t m = modulus(c), n = terms_of(c);
+    if (n == 0) return;
+    do {
+        const uint32_t places[] = {0, n - 1, below(n)};
+        size_t place = pick(places, 3);
+        uint32_t r = any(), values[] = {m, m + 1, m + 256, 65535, m + r % (65536 - m)};
+        set_term(c, place, pick(values, sizeof values / sizeof *values));
+    } while (below(2));
 }
 
 static void one_length(struct call *c) {
@@ -274,16 +299,36 @@ static void one_length(struct call *c) {
 
 static void other_fill(struct call *c) { c->fill = below(256); }
 
-/* The l of a claim, or the length in some record of a catalogue. */
+/* A record of a catalogue, mostly the first with the call's query, since it alone is tested; NULL where there is none. */
+static uint8_t *some_record(struct call *c) {
+    size_t records = c->op == LOOK_UP ? c->len[1] / RECORD : 0, i = 0;
+    if (records == 0) return NULL;
+    while (i < records && memcmp(c->bytes[1] + i * RECORD, c->bytes[0], QUERY) != 0) i++;
+    if (i == records || below(4) == 0) i = below(records);
+    return c->bytes[1] + i * RECORD;
+}
+
+/* The l of a claim, or the length in a record. */
 static void other_l(struct call *c) {
-    size_t records = c->len[1] / RECORD;
-    uint8_t *at = c->bytes[1] + (records ? below(records) : 0) * RECORD + LENGTH_AT;
-    uint32_t l = c->op == VERIFY ? c->number : c->op == GENERATE ? c->l : number_at(at, 2), r = any();
+    uint8_t *record = some_record(c);
+    uint32_t l = c->op == VERIFY ? c->number : c->op == GENERATE ? c->l : record ? number_at(record + LENGTH_AT, 2) : 0, r = any();
     const uint32_t values[] = {l + 1, l - 1, 0, 127, 128, 129, l + 256, l + 65536, r % 129, r % 129, r};
     l = pick(values, sizeof values / sizeof *values);
     if (c->op == VERIFY) c->number = l;
     if (c->op == GENERATE) c->l = l % 65536;
-    if (c->op == LOOK_UP && records > 0) number_to(at, l, 2);
+    if (record) number_to(record + LENGTH_AT, l, 2);
+}
+
+/* The a_0 of a claim or in a record, often together with what comes before its refusal. */
+static void other_lead(struct call *c) {
+    uint8_t *record = some_record(c);
+    uint32_t m = modulus(c), r = any(), values[] = {0, 2, m - 1, m, m + 1, 257, m ? r % m : 0, r};
+    uint32_t lead = pick(values, sizeof values / sizeof *values);
+    if (c->op == VERIFY) set_cell(c->bytes[1], 0, lead);
+    if (c->op == GENERATE) set_cell(c->bytes[0], 0, lead);
+    if (record) set_cell(record + A_AT, 0, lead);
+    if (below(3) == 0) other_l(c);
+    if (below(3) == 0) one_cell(c);
 }
 
 static void reduce(uint8_t *s, size_t from, size_t to, uint32_t m) {
@@ -382,9 +427,9 @@ static void other_operation(struct call *c) {
 
 /* One alteration in three is followed by another one, for the order of the refusals. */
 static void alter(struct call *c) {
-    static void (*const ways[])(struct call *) = {one_byte,    one_cell,        one_cell,        one_term,      one_term,
-                                                  one_length,  other_fill,      other_modulus,   other_modulus, wild_modulus,
-                                                  other_count, other_operation, other_operation, other_l};
+    static void (*const ways[])(struct call *) = {one_byte,        one_cell,        one_cell,      one_term,      one_term,     wrong_terms,
+                                                  one_length,      other_fill,      other_modulus, other_modulus, wild_modulus, other_count,
+                                                  other_operation, other_operation, other_l,       other_lead};
     do ways[below(sizeof ways / sizeof *ways)](c);
     while (below(3) == 0);
 }

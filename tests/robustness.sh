@@ -55,11 +55,14 @@ round() {
             compare "$program" "$side" "$1 $2 $3 with $copies copies"
         done
     done
-    awk '{ n[$1]++; if ($2 == "refused") n[$3]++ } END { for (k in n) print k, n[k] }' "$work/want" >>"$work/tally"
+    awk '
+        { n[$1]++ }
+        $2 == "refused" { n[$3 != 3 ? $3 : $5 == 0 ? "3_at_0" : "3_later"]++ }
+        END { for (k in n) print k, n[k] }' "$work/want" >>"$work/tally"
     calls=$((calls + $(wc -l <"$work/want")))
 }
 
-# A refusal that was never seen is a fault of the test.
+# A refusal that was never seen is a fault of the test; 3 must have come at place 0 and at later ones.
 total() {
     awk -v calls="$calls" -v seeds="$seed" -v seconds=$(($(date +%s) - began)) '
         { n[$1] += $2 }
@@ -68,7 +71,7 @@ total() {
             operations = split("verify generate synthesize look_up", k)
             for (i = 1; i <= operations; i++) printf " %s %d,", k[i], n[k[i]]
             printf " refused"
-            refusals = split("1 2 3 4 5 6 23 24", r)
+            refusals = split("1 2 3_at_0 3_later 4 5 6 23 24 25 26", r)
             for (i = 1; i <= refusals; i++) {
                 printf " %s: %d,", r[i], n[r[i]]
                 unseen += n[r[i]] == 0
