@@ -57,9 +57,9 @@ fits-of m l a b h =
 
 -- each of the three refusals with its condition, or none of them
 pub data Found (m l : ℕ) (a b : List ℕ) (o : Outcome) : Type 0 where
-  long : maxTerms < l → o ≡ Refused R.TooLong → Found m l a b o
-  unfit : l ≤ maxTerms → (Fits m l a b → ⊥) → o ≡ Refused R.Coefficient → Found m l a b o
-  led : l ≤ maxTerms → Fits m l a b → (at a 0 ≡ 1 → ⊥) → o ≡ Refused R.Lead → Found m l a b o
+  long : maxTerms < l → o ≡ Refused R.CandidateLength → Found m l a b o
+  coefficient : l ≤ maxTerms → (Fits m l a b → ⊥) → o ≡ Refused R.CandidateCoefficient → Found m l a b o
+  lead : l ≤ maxTerms → Fits m l a b → (at a 0 ≡ 1 → ⊥) → o ≡ Refused R.CandidateLead → Found m l a b o
   fine : IsFine m l a b → o ≡ Done → Found m l a b o
 
 pub found : (m l : ℕ) (a b : List ℕ) → Found m l a b (flawOf m l a b)
@@ -68,8 +68,8 @@ found m l a b = go (ltb maxTerms l) (fits m l a b) (eqb (at a 0) 1) refl refl re
   where
     go : (x y z : Bool) → ltb maxTerms l ≡ x → fits m l a b ≡ y → eqb (at a 0) 1 ≡ z → Found m l a b (flawBy x (not y) (not z))
     go true y z x' y' z' = long (ltb-true _ _ x') refl
-    go false false z x' y' z' = unfit (ltb-false _ _ x') (λ f. false-true (sym y' ∙ of-fits m l a b f)) refl
-    go false true false x' y' z' = led (ltb-false _ _ x') (fits-of m l a b y') (λ e. false-true (sym z' ∙ eq-eqb _ _ e)) refl
+    go false false z x' y' z' = coefficient (ltb-false _ _ x') (λ f. false-true (sym y' ∙ of-fits m l a b f)) refl
+    go false true false x' y' z' = lead (ltb-false _ _ x') (fits-of m l a b y') (λ e. false-true (sym z' ∙ eq-eqb _ _ e)) refl
     go false true true x' y' z' = fine (record { short = ltb-false _ _ x'; coefficients = fits-of m l a b y'; lead = eqb-true _ _ z' }) refl
 
 pub of-fine : (m l : ℕ) (a b : List ℕ) → IsFine m l a b → flawOf m l a b ≡ Done
@@ -82,8 +82,8 @@ fine-of m l a b h = go (found m l a b)
   where
     go : Found m l a b (flawOf m l a b) → IsFine m l a b
     go (long x e) = refused-done (sym e ∙ h)
-    go (unfit x y e) = refused-done (sym e ∙ h)
-    go (led x y z e) = refused-done (sym e ∙ h)
+    go (coefficient x y e) = refused-done (sym e ∙ h)
+    go (lead x y z e) = refused-done (sym e ∙ h)
     go (fine f e) = f
 
 -- ---- the loops that sum products

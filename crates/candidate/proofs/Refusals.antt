@@ -22,7 +22,7 @@ use Rattle.sequence.specs.Rules.{outside, sequenceOf, checkOf}
 use Rattle.sequence.proofs.Laws.{inside, refused-done, same-number}
 use Rattle.candidate.specs.declared.Verdict.the-variants as W
 use Rattle.candidate.specs.Rules.{aCells, bCells, flawOf, Fits, IsFine, verdictOf, judgeOf, orElse, verifyOf, generateOf}
-use Rattle.candidate.proofs.Laws.{Found, long, unfit, led, fine, found, of-fine}
+use Rattle.candidate.proofs.Laws.{Found, long, coefficient, lead, fine, found, of-fine}
 
 -- the refusals of a candidate are numbered from 6 on
 pub flaw-large : (m l : ℕ) (a b : List ℕ) {r : Refusal} → flawOf m l a b ≡ Refused r → 5 < refusal r .number
@@ -33,8 +33,8 @@ flaw-large m l a b {r} h = go (found m l a b)
 
     go : Found m l a b (flawOf m l a b) → 5 < refusal r .number
     go (long x e) = large e (omega arith)
-    go (unfit x y e) = large e (omega arith)
-    go (led x y z e) = large e (omega arith)
+    go (coefficient x y e) = large e (omega arith)
+    go (lead x y z e) = large e (omega arith)
     go (fine f e) = refused-done (sym h ∙ e)
 
 -- each of them with its condition, in both directions
@@ -49,61 +49,61 @@ module _ (m l : ℕ) (a b : List ℕ) where
   none : {A : Type 0} {r : Refusal} → flaw ≡ Refused r → flaw ≡ Done → A
   none h e = refused-done (sym h ∙ e)
 
-  pub told-long : flawOf m l a b ≡ Refused R.TooLong → maxTerms < l
+  pub told-long : flawOf m l a b ≡ Refused R.CandidateLength → maxTerms < l
   unfolding flaw
   told-long h = go (found m l a b)
     where
       go : Found m l a b (flawOf m l a b) → maxTerms < l
       go (long x e) = x
-      go (unfit x y e) = other h e (λ k. omega arith)
-      go (led x y z e) = other h e (λ k. omega arith)
+      go (coefficient x y e) = other h e (λ k. omega arith)
+      go (lead x y z e) = other h e (λ k. omega arith)
       go (fine f e) = none h e
 
-  pub long-told : maxTerms < l → flawOf m l a b ≡ Refused R.TooLong
+  pub long-told : maxTerms < l → flawOf m l a b ≡ Refused R.CandidateLength
   long-told h = go (found m l a b)
     where
-      go : Found m l a b (flawOf m l a b) → flawOf m l a b ≡ Refused R.TooLong
+      go : Found m l a b (flawOf m l a b) → flawOf m l a b ≡ Refused R.CandidateLength
       go (long x e) = e
-      go (unfit x y e) = absurd (omega (arith, x, h))
-      go (led x y z e) = absurd (omega (arith, x, h))
+      go (coefficient x y e) = absurd (omega (arith, x, h))
+      go (lead x y z e) = absurd (omega (arith, x, h))
       go (fine f e) = absurd (omega (arith, f .short, h))
 
-  pub told-unfit : flawOf m l a b ≡ Refused R.Coefficient → (l ≤ maxTerms) × (Fits m l a b → ⊥)
+  pub told-coefficient : flawOf m l a b ≡ Refused R.CandidateCoefficient → (l ≤ maxTerms) × (Fits m l a b → ⊥)
   unfolding flaw
-  told-unfit h = go (found m l a b)
+  told-coefficient h = go (found m l a b)
     where
       go : Found m l a b (flawOf m l a b) → (l ≤ maxTerms) × (Fits m l a b → ⊥)
       go (long x e) = other h e (λ k. omega arith)
-      go (unfit x y e) = (x, y)
-      go (led x y z e) = other h e (λ k. omega arith)
+      go (coefficient x y e) = (x, y)
+      go (lead x y z e) = other h e (λ k. omega arith)
       go (fine f e) = none h e
 
-  pub unfit-told : l ≤ maxTerms → (Fits m l a b → ⊥) → flawOf m l a b ≡ Refused R.Coefficient
-  unfit-told h k = go (found m l a b)
+  pub coefficient-told : l ≤ maxTerms → (Fits m l a b → ⊥) → flawOf m l a b ≡ Refused R.CandidateCoefficient
+  coefficient-told h k = go (found m l a b)
     where
-      go : Found m l a b (flawOf m l a b) → flawOf m l a b ≡ Refused R.Coefficient
+      go : Found m l a b (flawOf m l a b) → flawOf m l a b ≡ Refused R.CandidateCoefficient
       go (long x e) = absurd (omega (arith, x, h))
-      go (unfit x y e) = e
-      go (led x y z e) = absurd (k y)
+      go (coefficient x y e) = e
+      go (lead x y z e) = absurd (k y)
       go (fine f e) = absurd (k (f .coefficients))
 
-  pub told-other : flawOf m l a b ≡ Refused R.Lead → (l ≤ maxTerms) × Fits m l a b × (at a 0 ≡ 1 → ⊥)
+  pub told-lead : flawOf m l a b ≡ Refused R.CandidateLead → (l ≤ maxTerms) × Fits m l a b × (at a 0 ≡ 1 → ⊥)
   unfolding flaw
-  told-other h = go (found m l a b)
+  told-lead h = go (found m l a b)
     where
       go : Found m l a b (flawOf m l a b) → (l ≤ maxTerms) × Fits m l a b × (at a 0 ≡ 1 → ⊥)
       go (long x e) = other h e (λ k. omega arith)
-      go (unfit x y e) = other h e (λ k. omega arith)
-      go (led x y z e) = (x, y, z)
+      go (coefficient x y e) = other h e (λ k. omega arith)
+      go (lead x y z e) = (x, y, z)
       go (fine f e) = none h e
 
-  pub other-told : l ≤ maxTerms → Fits m l a b → (at a 0 ≡ 1 → ⊥) → flawOf m l a b ≡ Refused R.Lead
-  other-told h f k = go (found m l a b)
+  pub lead-told : l ≤ maxTerms → Fits m l a b → (at a 0 ≡ 1 → ⊥) → flawOf m l a b ≡ Refused R.CandidateLead
+  lead-told h f k = go (found m l a b)
     where
-      go : Found m l a b (flawOf m l a b) → flawOf m l a b ≡ Refused R.Lead
+      go : Found m l a b (flawOf m l a b) → flawOf m l a b ≡ Refused R.CandidateLead
       go (long x e) = absurd (omega (arith, x, h))
-      go (unfit x y e) = absurd (y f)
-      go (led x y z e) = e
+      go (coefficient x y e) = absurd (y f)
+      go (lead x y z e) = e
       go (fine g e) = absurd (k (g .lead))
 
   -- a refused one is malformed
@@ -136,8 +136,8 @@ verify-flaw query a b l ha hb h k = rw (eq-eqb (length a) aBytes ha, eq-eqb (len
 
 -- and a refusal other than 5 for a and b is one of these
 pub record VerifyRefused (query a b : List ℕ) (l : ℕ) (r : Refusal) : Type 0 where
-  pub a-long : length a ≡ aBytes
-  pub b-long : length b ≡ bBytes
+  pub a-size : length a ≡ aBytes
+  pub b-size : length b ≡ bBytes
   pub source : (checkOf query ≡ Refused r) ⊎ ((checkOf query ≡ Done) × (flawOf (sequenceOf query .modulus) l (aCells a) (bCells b) ≡ Refused r))
 
 pub verify-refused : (query a b : List ℕ) (l : ℕ) {r : Refusal} → verifyOf query a b l ≡ W.Refused r → (refusal r .number ≡ 5 → ⊥) → VerifyRefused query a b l r
@@ -162,8 +162,8 @@ verify-refused query a b l {r} h other =
         → pick x (pick y (orElse o (orElse f (verdictOf n i))) (W.Refused R.Buffer)) (W.Refused R.Buffer) ≡ W.Refused r → VerifyRefused query a b l r
     go false y o f x' y' o' f' k = buffer k
     go true false o f x' y' o' f' k = buffer k
-    go true true (Refused s) f x' y' o' f' k = record { a-long = eqb-true _ _ x'; b-long = eqb-true _ _ y'; source = inl (o' ∙ refused-same k) }
-    go true true Done (Refused s) x' y' o' f' k = record { a-long = eqb-true _ _ x'; b-long = eqb-true _ _ y'; source = inr (o', f' ∙ refused-same k) }
+    go true true (Refused s) f x' y' o' f' k = record { a-size = eqb-true _ _ x'; b-size = eqb-true _ _ y'; source = inl (o' ∙ refused-same k) }
+    go true true Done (Refused s) x' y' o' f' k = record { a-size = eqb-true _ _ x'; b-size = eqb-true _ _ y'; source = inr (o', f' ∙ refused-same k) }
     go true true Done Done x' y' o' f' k = no-refusal n i k
 
 -- ---- running
@@ -184,8 +184,8 @@ generate-flaw m a b l cells ha hb even least most few =
     )
 
 pub record GenerateRefused (m : ℕ) (a b : List ℕ) (l : ℕ) (cells : List ℕ) (r : Refusal) : Type 0 where
-  pub a-long : length a ≡ aBytes
-  pub b-long : length b ≡ bBytes
+  pub a-size : length a ≡ aBytes
+  pub b-size : length b ≡ bBytes
   pub even : length cells % 2 ≡ zero
   pub limits : (2 ≤ m) × (m ≤ maxModulus)
   pub count : length cells / 2 ≤ maxTerms
@@ -213,4 +213,4 @@ generate-refused m a b l cells {r} h large =
     go true true true true u p' q' s' t' u' k = other (omega arith) k
     go true true true false true p' q' s' t' u' k = other (omega arith) k
     go true true true false false p' q' s' t' u' k =
-        record { a-long = eqb-true _ _ p'; b-long = eqb-true _ _ q'; even = eqb-true _ _ s'; limits = inside m t'; count = ltb-false _ _ u'; source = k }
+        record { a-size = eqb-true _ _ p'; b-size = eqb-true _ _ q'; even = eqb-true _ _ s'; limits = inside m t'; count = ltb-false _ _ u'; source = k }

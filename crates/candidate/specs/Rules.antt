@@ -38,7 +38,7 @@ fits m l a b = both (allBelow m maxCells a) (both (allBelow m maxTerms b) (both 
 
 -- the first thing wrong with a candidate, by its tests: 25 where it is too long, 6 where a coefficient does not fit, 26 where a_0 is not 1
 abbrev pub flawBy : Bool → Bool → Bool → Outcome
-flawBy long unfit other = pick long (Refused R.TooLong) (pick unfit (Refused R.Coefficient) (pick other (Refused R.Lead) Done))
+flawBy long coefficient lead = pick long (Refused R.CandidateLength) (pick coefficient (Refused R.CandidateCoefficient) (pick lead (Refused R.CandidateLead) Done))
 
 unfoldable pub flawOf : ℕ → ℕ → List ℕ → List ℕ → Outcome
 flawOf m l a b = flawBy (ltb maxTerms l) (not (fits m l a b)) (not (eqb (at a 0) 1))

@@ -69,17 +69,17 @@ fn fits(m: u32, l: u32, a: &[u8], b: &[u8]) -> bool
 }
 
 // The refusal of a candidate by its tests, in the order 25, 6, 26.
-fn first_flaw(long: bool, unfit: bool, other: bool) -> Outcome
-    ensures { λ r. ⌜ r ≡ flawBy long unfit other ⌝ }
+fn first_flaw(long: bool, coefficient: bool, lead: bool) -> Outcome
+    ensures { λ r. ⌜ r ≡ flawBy long coefficient lead ⌝ }
 {
     if long {
-        return Outcome::Refused(Refusal::TooLong);
+        return Outcome::Refused(Refusal::CandidateLength);
     }
-    if unfit {
-        return Outcome::Refused(Refusal::Coefficient);
+    if coefficient {
+        return Outcome::Refused(Refusal::CandidateCoefficient);
     }
-    if other {
-        return Outcome::Refused(Refusal::Lead);
+    if lead {
+        return Outcome::Refused(Refusal::CandidateLead);
     }
     Outcome::Done
 }
@@ -90,9 +90,9 @@ fn find_flaw(m: u32, l: u32, a: &[u8], b: &[u8]) -> Outcome
     ensures { λ r. ⌜ r ≡ flawOf m l (aCells (now (a .entry))) (bCells (now (b .entry))) ⌝ }
 {
     let long = sequence::MAX_TERMS < l;
-    let unfit = !fits(m, l, a, b);
-    let other = cells::cell(a, 0) != 1;
-    first_flaw(long, unfit, other)
+    let coefficient = !fits(m, l, a, b);
+    let lead = cells::cell(a, 0) != 1;
+    first_flaw(long, coefficient, lead)
 }
 
 // A coefficient times a term or a cell. 129 of these fit a u64.

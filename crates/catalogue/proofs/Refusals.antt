@@ -21,7 +21,7 @@ use Rattle.sequence.specs.Answers.{refusal}
 use Rattle.sequence.specs.Rules.{sequenceOf, checkOf}
 use Rattle.sequence.proofs.Laws.{same-number}
 use Rattle.candidate.specs.Rules.{aCells, bCells, flawOf, judgeOf, IsFine}
-use Rattle.candidate.proofs.Laws.{Found, long, unfit, led, fine, found}
+use Rattle.candidate.proofs.Laws.{Found, long, coefficient, lead, fine, found}
 use Rattle.catalogue.specs.declared.Match.{Match}
 use Rattle.catalogue.specs.declared.Match.the-variants as M
 use Rattle.catalogue.specs.declared.LookedUp.the-variants as S
@@ -54,7 +54,7 @@ look-up-query query catalogue out h k = rw (eq-eqb (length out) recordBytes h, k
 
 -- a refusal other than 5 for the record is the query's, or 23 or 24
 pub record LookUpRefused (query catalogue out : List ℕ) (r : Refusal) : Type 0 where
-  pub long : length out ≡ recordBytes
+  pub size : length out ≡ recordBytes
   pub source : (checkOf query ≡ O.Refused r) ⊎ ((O.Refused R.Catalogue ≡ O.Refused r) ⊎ (O.Refused R.Record ≡ O.Refused r))
 
 pub look-up-refused :
@@ -68,14 +68,14 @@ look-up-refused query catalogue out {r} h other =
 
     served : (j : ℕ) (g : Bool) → length out ≡ recordBytes → pick g (S.Found j) (S.Refused R.Record) ≡ S.Refused r → LookUpRefused query catalogue out r
     served j true l q = let z : _≡_ {A = ℕ} 0 1 = cc in absurd (omega arith)
-    served j false l q = record { long = l; source = inr (inr (refused-same q)) }
+    served j false l q = record { size = l; source = inr (inr (refused-same q)) }
 
     go :
         (b : Bool) (o : Outcome) (d : Bool) (f : Match) → eqb (length out) recordBytes ≡ b → checkOf query ≡ o →
         pick b (orElse o (pick d (serveOf (sequenceOf query) catalogue f) (S.Refused R.Catalogue))) (S.Refused R.Buffer) ≡ S.Refused r → LookUpRefused query catalogue out r
     go false o d f e e' q = absurd (other (sym (same-number (refused-same q))))
-    go true (O.Refused s) d f e e' q = record { long = eqb-true _ _ e; source = inl (e' ∙ refused-same q) }
-    go true O.Done false f e e' q = record { long = eqb-true _ _ e; source = inr (inl (refused-same q)) }
+    go true (O.Refused s) d f e e' q = record { size = eqb-true _ _ e; source = inl (e' ∙ refused-same q) }
+    go true O.Done false f e e' q = record { size = eqb-true _ _ e; source = inr (inl (refused-same q)) }
     go true O.Done true M.Nowhere e e' q = let z : _≡_ {A = ℕ} 0 1 = cc in absurd (omega arith)
     go true O.Done true (M.At j) e e' q = served j (passes (sequenceOf query) (recordAt catalogue j)) (eqb-true _ _ e) q
 
@@ -97,8 +97,8 @@ malformed-fails s entry h = go (found (s .modulus) l a b)
 
     go : Found (s .modulus) l a b (flawOf (s .modulus) l a b) → passes s entry ≡ false
     go (long x e) = rw e
-    go (unfit x y e) = rw e
-    go (led x y z e) = rw e
+    go (coefficient x y e) = rw e
+    go (lead x y z e) = rw e
     go (fine f e) = absurd (h f)
 
 pub look-up-malformed :

@@ -22,13 +22,13 @@ at-place R.Count i = refl
 at-place (R.Term j) i = refl
 at-place R.Padding i = refl
 at-place R.Buffer i = refl
-at-place R.Coefficient i = refl
+at-place R.CandidateCoefficient i = refl
 at-place R.Sequence i = refl
 at-place R.Full i = refl
 at-place R.Catalogue i = refl
 at-place R.Record i = refl
-at-place R.TooLong i = refl
-at-place R.Lead i = refl
+at-place R.CandidateLength i = refl
+at-place R.CandidateLead i = refl
 
 pub placed-code : (r : Refusal) {n i : ℕ} {p : Place} → n ≡ refusal r .number → placed p ≡ refusal r .values → p ≡ At i → n + 256 * i ≡ codeOf (refusal r)
 placed-code r {n} {i} e h k =

@@ -26,8 +26,8 @@ use Rattle.sequence.specs.Rules.{IsSound, openOf, pushOf, sequenceOf, checkOf}
 use Rattle.sequence.proofs.Laws.{TermAt, term-check, check-term, check-small, same-number, refused-done, Push, unsound, full, large, done, pushing, push-large, sound-of}
 use Rattle.candidate.specs.declared.Verdict.the-variants as W
 use Rattle.candidate.specs.Rules.{aCells, bCells, flawOf, IsFine, verifyOf, generateOf}
-use Rattle.candidate.proofs.Laws.{Found, long, unfit, led, fine, found}
-use Rattle.candidate.proofs.Refusals.{flaw-large, told-long, long-told, told-unfit, unfit-told, told-other, other-told, told-malformed, VerifyRefused, verify-query, verify-flaw, verify-refused, generate-flaw, generate-refused}
+use Rattle.candidate.proofs.Laws.{Found, long, coefficient, lead, fine, found}
+use Rattle.candidate.proofs.Refusals.{flaw-large, told-long, long-told, told-coefficient, coefficient-told, told-lead, lead-told, told-malformed, VerifyRefused, verify-query, verify-flaw, verify-refused, generate-flaw, generate-refused}
 use Rattle.catalogue.specs.declared.LookedUp.the-variants as S
 use Rattle.catalogue.specs.Rules.{recordBytes, synthesizeOf, lookUpOf}
 use Rattle.catalogue.proofs.Refusals.{synthesize-query, synthesize-refused, LookUpRefused, look-up-query, look-up-refused, look-up-malformed}
@@ -45,7 +45,7 @@ term-cell query i h = at-tabulate maxTerms (λ i. cellAt query (2 + i)) i h
 readable-first : (query : List ℕ) (i : ℕ) → length query ≡ queryBytes → TermAt (sequenceOf query) i → Readable query × FirstWrong query i
 unfolding sequenceOf
 readable-first query i h t = (
-  record { long = h; least = t .least; most = t .most; count = t .count },
+  record { size = h; least = t .least; most = t .most; count = t .count },
   record {
     wrong = record { within = t .within; large = subst (λ (z : ℕ). cellAt query 0 ≤ z) (term-cell query i (omega (arith, t .within, t .count))) (t .large) };
     before = λ j k. subst (λ (z : ℕ). z < cellAt query 0) (term-cell query j (omega (arith, k, t .within, t .count))) (t .before j k);
@@ -97,7 +97,7 @@ placed refused reply lent query back on =
     }
   where
     told : (i : ℕ) → lent → Readable query → FirstWrong query i → reply ≡ refused (R.Term i)
-    told i l r f = on i l (check-term query i (r .long) (first-term query i r f))
+    told i l r f = on i l (check-term query i (r .size) (first-term query i r f))
 
 synthesized : (query out : List ℕ) → Placed O.Refused (synthesizeOf query out) (length out ≡ recordBytes) query
 synthesized query out =
@@ -113,7 +113,7 @@ looked-up query catalogue out =
     back i e = go (look-up-refused query catalogue out e (λ k. omega arith))
       where
         go : LookUpRefused query catalogue out (R.Term i) → (length out ≡ recordBytes) × (checkOf query ≡ O.Refused (R.Term i))
-        go h = (h .long, from (h .source))
+        go h = (h .size, from (h .source))
           where
             from : (checkOf query ≡ O.Refused (R.Term i)) ⊎ ((O.Refused R.Catalogue ≡ O.Refused (R.Term i)) ⊎ (O.Refused R.Record ≡ O.Refused (R.Term i))) → checkOf query ≡ O.Refused (R.Term i)
             from (inl k) = k
@@ -132,7 +132,7 @@ verified query a b l =
         from (inr k) = absurd (omega (arith, flaw-large (sequenceOf query .modulus) l (aCells a) (bCells b) (k .1)))
 
         go : VerifyRefused query a b l (R.Term i) → ((length a ≡ aBytes) × (length b ≡ bBytes)) × (checkOf query ≡ O.Refused (R.Term i))
-        go h = ((h .a-long, h .b-long), from (h .source))
+        go h = ((h .a-size, h .b-size), from (h .source))
 
 -- ---- pushes
 
@@ -181,12 +181,12 @@ flawed :
     → Flawed refused reply reached m l a b
 flawed refused reply reached m l a b back on =
     record {
-      told-long = λ e. let h = back R.TooLong (omega arith) e in (h .0, told-long m l a b (h .1));
-      long-told = λ h k. on R.TooLong h (long-told m l a b k);
-      told-unfit = λ e. let h = back R.Coefficient (omega arith) e in let k = told-unfit m l a b (h .1) in (h .0, k .0, k .1);
-      unfit-told = λ h k f. on R.Coefficient h (unfit-told m l a b k f);
-      told-other = λ e. let h = back R.Lead (omega arith) e in let k = told-other m l a b (h .1) in (h .0, k .0, k .1, k .2);
-      other-told = λ h k f o. on R.Lead h (other-told m l a b k f o);
+      told-long = λ e. let h = back R.CandidateLength (omega arith) e in (h .0, told-long m l a b (h .1));
+      long-told = λ h k. on R.CandidateLength h (long-told m l a b k);
+      told-coefficient = λ e. let h = back R.CandidateCoefficient (omega arith) e in let k = told-coefficient m l a b (h .1) in (h .0, k .0, k .1);
+      coefficient-told = λ h k f. on R.CandidateCoefficient h (coefficient-told m l a b k f);
+      told-lead = λ e. let h = back R.CandidateLead (omega arith) e in let k = told-lead m l a b (h .1) in (h .0, k .0, k .1, k .2);
+      lead-told = λ h k f o. on R.CandidateLead h (lead-told m l a b k f o);
       told-malformed = malformed;
       malformed-told = λ h k. one h k (found m l a b);
     }
@@ -195,14 +195,14 @@ flawed refused reply reached m l a b back on =
     from r n e = let h = back r n e in (h .0, told-malformed m l a b (h .1))
 
     malformed : OneOfThree refused reply → reached × (IsFine m l a b → ⊥)
-    malformed (inl e) = from R.TooLong (omega arith) e
-    malformed (inr (inl e)) = from R.Coefficient (omega arith) e
-    malformed (inr (inr e)) = from R.Lead (omega arith) e
+    malformed (inl e) = from R.CandidateLength (omega arith) e
+    malformed (inr (inl e)) = from R.CandidateCoefficient (omega arith) e
+    malformed (inr (inr e)) = from R.CandidateLead (omega arith) e
 
     one : reached → (IsFine m l a b → ⊥) → Found m l a b (flawOf m l a b) → OneOfThree refused reply
-    one h k (long x e) = inl (on R.TooLong h e)
-    one h k (unfit x y e) = inr (inl (on R.Coefficient h e))
-    one h k (led x y z e) = inr (inr (on R.Lead h e))
+    one h k (long x e) = inl (on R.CandidateLength h e)
+    one h k (coefficient x y e) = inr (inl (on R.CandidateCoefficient h e))
+    one h k (lead x y z e) = inr (inr (on R.CandidateLead h e))
     one h k (fine f e) = absurd (k f)
 
 tested :
@@ -225,17 +225,17 @@ tested query a b l =
         go : (checkOf query ≡ O.Refused r) ⊎ ((checkOf query ≡ O.Done) × (flawOf (sequenceOf query .modulus) l (aCells a) (bCells b) ≡ O.Refused r))
             → ((length a ≡ aBytes) × (length b ≡ bBytes) × (checkOf query ≡ O.Done)) × (flaw ≡ O.Refused r)
         go (inl k) = absurd (omega (arith, n, check-small query k))
-        go (inr k) = ((v .a-long, v .b-long, k .0), k .1)
+        go (inr k) = ((v .a-size, v .b-size, k .0), k .1)
 
 ran : (m : ℕ) (a b : List ℕ) (l : ℕ) (cells : List ℕ) → Flawed O.Refused (generateOf m a b l cells) (Runs m a b cells) m l (aCells a) (bCells b)
 ran m a b l cells =
     flawed O.Refused (generateOf m a b l cells) (Runs m a b cells) m l (aCells a) (bCells b) back
-    (λ r h e. generate-flaw m a b l cells (h .a-long) (h .b-long) (h .even) (h .least) (h .most) (h .count) ∙ e)
+    (λ r h e. generate-flaw m a b l cells (h .a-size) (h .b-size) (h .even) (h .least) (h .most) (h .count) ∙ e)
   where
     back : (r : Refusal) → 5 < refusal r .number → generateOf m a b l cells ≡ O.Refused r → Runs m a b cells × (flawOf m l (aCells a) (bCells b) ≡ O.Refused r)
     back r n e =
         let g = generate-refused m a b l cells e n in
-        (record { a-long = g .a-long; b-long = g .b-long; even = g .even; least = g .limits .0; most = g .limits .1; count = g .count }, g .source)
+        (record { a-size = g .a-size; b-size = g .b-size; even = g .even; least = g .limits .0; most = g .limits .1; count = g .count }, g .source)
 
 -- looking up gives none of the three
 never : (query catalogue out : List ℕ) → OneOfThree S.Refused (lookUpOf query catalogue out) → ⊥
@@ -252,9 +252,9 @@ never query catalogue out = go
         of (inr (inr k)) = no-24 (same-number k)
 
     go : OneOfThree S.Refused (lookUpOf query catalogue out) → ⊥
-    go (inl e) = from R.TooLong (omega arith) (λ k. omega arith) (λ k. omega arith) e
-    go (inr (inl e)) = from R.Coefficient (omega arith) (λ k. omega arith) (λ k. omega arith) e
-    go (inr (inr e)) = from R.Lead (omega arith) (λ k. omega arith) (λ k. omega arith) e
+    go (inl e) = from R.CandidateLength (omega arith) (λ k. omega arith) (λ k. omega arith) e
+    go (inr (inl e)) = from R.CandidateCoefficient (omega arith) (λ k. omega arith) (λ k. omega arith) e
+    go (inr (inr e)) = from R.CandidateLead (omega arith) (λ k. omega arith) (λ k. omega arith) e
 
 pub every-flaw : EveryFlaw
 unfolding sequenceOf

@@ -23,7 +23,7 @@ use Rattle.guarantees.specs.Calls.{Call, afterAll, taken}
 
 -- none of the query's own 5, 1, 2 applies
 pub record Readable (query : List ℕ) : Type 0 where
-  pub long : length query ≡ queryBytes
+  pub size : length query ≡ queryBytes
   pub least : 2 ≤ cellAt query 0
   pub most : cellAt query 0 ≤ maxModulus
   pub count : cellAt query 1 ≤ maxTerms
@@ -67,27 +67,27 @@ pub record EveryPlace : Type 0 where
 
 -- one of the three refusals
 abbrev pub OneOfThree : {A : Type 0} → (Refusal → A) → A → Type 0
-OneOfThree refused reply = (reply ≡ refused R.TooLong) ⊎ ((reply ≡ refused R.Coefficient) ⊎ (reply ≡ refused R.Lead))
+OneOfThree refused reply = (reply ≡ refused R.CandidateLength) ⊎ ((reply ≡ refused R.CandidateCoefficient) ⊎ (reply ≡ refused R.CandidateLead))
 
 -- The reply to a candidate of length l modulo m, where `refused` makes one of a refusal and `reached` says that no refusal before 25 applies.
 pub record Flawed {A : Type 0} (refused : Refusal → A) (reply : A) (reached : Type 0) (m l : ℕ) (a b : List ℕ) : Type 0 where
   -- 25 exactly when the length is above 128
-  pub told-long : reply ≡ refused R.TooLong → reached × (maxTerms < l)
-  pub long-told : reached → maxTerms < l → reply ≡ refused R.TooLong
+  pub told-long : reply ≡ refused R.CandidateLength → reached × (maxTerms < l)
+  pub long-told : reached → maxTerms < l → reply ≡ refused R.CandidateLength
   -- 6 exactly when it is not, and a coefficient is not below m or not zero past its end
-  pub told-unfit : reply ≡ refused R.Coefficient → reached × (l ≤ maxTerms) × (Fits m l a b → ⊥)
-  pub unfit-told : reached → l ≤ maxTerms → (Fits m l a b → ⊥) → reply ≡ refused R.Coefficient
+  pub told-coefficient : reply ≡ refused R.CandidateCoefficient → reached × (l ≤ maxTerms) × (Fits m l a b → ⊥)
+  pub coefficient-told : reached → l ≤ maxTerms → (Fits m l a b → ⊥) → reply ≡ refused R.CandidateCoefficient
   -- 26 exactly when neither is so and a_0 is not 1
-  pub told-other : reply ≡ refused R.Lead → reached × (l ≤ maxTerms) × Fits m l a b × (at a 0 ≡ 1 → ⊥)
-  pub other-told : reached → l ≤ maxTerms → Fits m l a b → (at a 0 ≡ 1 → ⊥) → reply ≡ refused R.Lead
+  pub told-lead : reply ≡ refused R.CandidateLead → reached × (l ≤ maxTerms) × Fits m l a b × (at a 0 ≡ 1 → ⊥)
+  pub lead-told : reached → l ≤ maxTerms → Fits m l a b → (at a 0 ≡ 1 → ⊥) → reply ≡ refused R.CandidateLead
   -- one of the three exactly when the candidate is malformed: when 6 was given before there were three
   pub told-malformed : OneOfThree refused reply → reached × (IsFine m l a b → ⊥)
   pub malformed-told : reached → (IsFine m l a b → ⊥) → OneOfThree refused reply
 
 -- no refusal of a run before 25 applies
 pub record Runs (m : ℕ) (a b cells : List ℕ) : Type 0 where
-  pub a-long : length a ≡ aBytes
-  pub b-long : length b ≡ bBytes
+  pub a-size : length a ≡ aBytes
+  pub b-size : length b ≡ bBytes
   pub even : length cells % 2 ≡ zero
   pub least : 2 ≤ m
   pub most : m ≤ maxModulus

@@ -35,13 +35,13 @@ refusal R.Count = refused 2
 refusal (R.Term i) = refusedAt 3 i
 refusal R.Padding = refused 4
 refusal R.Buffer = refused 5
-refusal R.Coefficient = refused 6
+refusal R.CandidateCoefficient = refused 6
 refusal R.Sequence = refused 21
 refusal R.Full = refused 22
 refusal R.Catalogue = refused 23
 refusal R.Record = refused 24
-refusal R.TooLong = refused 25
-refusal R.Lead = refused 26
+refusal R.CandidateLength = refused 25
+refusal R.CandidateLead = refused 26
 
 -- a place as a value
 abbrev pub placed : Place → List ℕ

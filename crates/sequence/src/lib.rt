@@ -50,13 +50,13 @@ pub enum Refusal {
     Term(u32),
     Padding,
     Buffer,
-    Coefficient,
+    CandidateCoefficient,
     Sequence,
     Full,
     Catalogue,
     Record,
-    TooLong,
-    Lead,
+    CandidateLength,
+    CandidateLead,
 }
 
 // The place that a refusal carries.
@@ -217,7 +217,6 @@ pub fn push(s: Sequence, term: u32) -> Pushed
 {
     if is_sound(s) {
         let n = s.count;
-        let more = n + 1;
         if n == MAX_TERMS {
             return Pushed {
                 sequence: s,
@@ -232,7 +231,7 @@ pub fn push(s: Sequence, term: u32) -> Pushed
         }
         let mut longer = s;
         longer.terms[n as usize] = term;
-        longer.count = more;
+        longer.count = n + 1;
         return Pushed {
             sequence: longer,
             outcome: Outcome::Done,
@@ -293,13 +292,13 @@ pub fn number(r: Refusal) -> u64
         Refusal::Term(_) => 3,
         Refusal::Padding => 4,
         Refusal::Buffer => 5,
-        Refusal::Coefficient => 6,
+        Refusal::CandidateCoefficient => 6,
         Refusal::Sequence => 21,
         Refusal::Full => 22,
         Refusal::Catalogue => 23,
         Refusal::Record => 24,
-        Refusal::TooLong => 25,
-        Refusal::Lead => 26,
+        Refusal::CandidateLength => 25,
+        Refusal::CandidateLead => 26,
     }
 }
 

@@ -32,13 +32,13 @@ returns-2 c = go (c .before .args .r) (c .match .keys2)
     go (R.Term i) k = absurd (miss tags 2 tt k)
     go R.Padding k = refl
     go R.Buffer k = refl
-    go R.Coefficient k = refl
+    go R.CandidateCoefficient k = refl
     go R.Sequence k = refl
     go R.Full k = refl
     go R.Catalogue k = refl
     go R.Record k = refl
-    go R.TooLong k = refl
-    go R.Lead k = refl
+    go R.CandidateLength k = refl
+    go R.CandidateLead k = refl
 
 pub place-of-spec : {M : Type 1} → statement M
 place-of-spec = tie.close (tie.spec enum-known-r returns returns-2)

@@ -15,9 +15,6 @@ use Rattle.sequence.proofs.push.Tie as tie
 is-sound-requires : tie.Need-is-sound-requires
 is-sound-requires c κs = search needs
 
-add-more : tie.Need-add-more
-add-more c = omega (arith, sound-of _ (sym (c .before .is-sound .ensures) ∙ c .if1 .taken) .count)
-
 returns : tie.Need-returns
 unfolding pushOf
 returns c = push-told _ _ (simp (← c .before .before .is-sound .ensures, c .before .if1 .taken, eq-eqb _ _ (c .if2 .taken)))
@@ -41,6 +38,11 @@ element-write-longer c =
     let p = c .before .before .before in
     lt-of-le-ne (sound-of _ (sym (p .before .is-sound .ensures) ∙ p .if1 .taken) .count) (c .before .before .if2 .left)
 
+add-longer : tie.Need-add-longer
+add-longer c =
+    let p = c .before .before .before in
+    omega (arith, sound-of _ (sym (p .before .is-sound .ensures) ∙ p .if1 .taken) .count)
+
 returns-3 : tie.Need-returns-3
 unfolding pushOf
 returns-3 c =
@@ -58,11 +60,11 @@ push-spec =
     tie.close
     (tie.spec
     is-sound-requires
-    add-more
     returns
     returns-2
     cast-longer
     mul-longer
     element-write-longer
+    add-longer
     returns-3
     returns-4)
