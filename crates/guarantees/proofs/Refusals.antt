@@ -4,7 +4,7 @@ use mathlib.Core.Path.{_≡_, refl, sym, ap, _∙_, subst}
 use mathlib.Core.Bool.{Bool, true}
 use mathlib.Core.Logic.{_⊎_, inl, inr}
 use mathlib.Core.List.{List}
-use Prim.Native.Nat.{ℕ, _+_, _≤_, _<_}
+use Prim.Native.Nat.{ℕ, _+_, _*_, _≤_, _<_}
 use native.Mathlib.Omega.{arith}
 use lib.Dec.{leb}
 use lib.ListN.{length}
@@ -21,19 +21,38 @@ use Rattle.sequence.specs.declared.Outcome.{Outcome}
 use Rattle.sequence.specs.declared.Outcome.the-variants as O
 use Rattle.sequence.specs.declared.Pushed.{Pushed}
 use Rattle.sequence.specs.Limits.{maxModulus, maxTerms, queryBytes, aBytes, bBytes}
-use Rattle.sequence.specs.Answers.{refusal}
+use Rattle.sequence.specs.Answers.{refused, refusal}
 use Rattle.sequence.specs.Rules.{IsSound, openOf, pushOf, sequenceOf, checkOf}
-use Rattle.sequence.proofs.Laws.{TermAt, term-check, check-term, check-small, same-number, refused-done, Push, unsound, full, large, done, pushing, push-large, sound-of}
+use Rattle.sequence.proofs.Laws.{TermAt, term-check, check-term, check-small, check-done, done-check, same-number, refused-done, Push, unsound, full, large, done, pushing, push-large, sound-of}
 use Rattle.candidate.specs.declared.Verdict.the-variants as W
 use Rattle.candidate.specs.Rules.{aCells, bCells, flawOf, IsFine, verifyOf, generateOf}
 use Rattle.candidate.proofs.Laws.{Found, long, coefficient, lead, fine, found}
 use Rattle.candidate.proofs.Refusals.{flaw-large, told-long, long-told, told-coefficient, coefficient-told, told-lead, lead-told, told-malformed, VerifyRefused, verify-query, verify-flaw, verify-refused, generate-flaw, generate-refused}
 use Rattle.catalogue.specs.declared.LookedUp.the-variants as S
-use Rattle.catalogue.specs.Rules.{recordBytes, synthesizeOf, lookUpOf}
-use Rattle.catalogue.proofs.Refusals.{synthesize-query, synthesize-refused, LookUpRefused, look-up-query, look-up-refused, look-up-malformed}
+use Rattle.catalogue.specs.Rules.{recordBytes, records, recordAt, firstMatch, passes, synthesizeOf, lookUpOf}
+use Rattle.catalogue.proofs.Refusals.{synthesize-query, synthesize-refused, LookUpRefused, look-up-query, look-up-refused, look-up-fails, fails-look-up, not-yes, yes-not}
 use Rattle.guarantees.specs.Calls.{Call, afterAll, taken}
-use Rattle.guarantees.specs.Refusals.{Readable, WrongAt, FirstWrong, Placed, PushPlaced, EveryPlace, OneOfThree, Flawed, Runs, EveryFlaw}
+use Rattle.guarantees.specs.Refusals.{OnlyThree, Readable, WrongAt, FirstWrong, Clean, Placed, PushPlaced, EveryPlace, OneOfThree, Flawed, Runs, MeetsAt, testAt, EveryFlaw}
 use Rattle.guarantees.proofs.State.{holding, sound-for, state, good}
+
+-- ---- the place that a refusal carries
+
+pub only-three : OnlyThree
+only-three = record { placed = λ i. refl; plain = plain; placed-code = λ i. refl; plain-code = λ n. (let z : n + 256 * 0 ≡ n = omega arith in z) }
+  where
+    plain : (r : Refusal) → (refusal r .number ≡ 3 → ⊥) → refusal r ≡ refused (refusal r .number)
+    plain R.Modulus h = refl
+    plain R.Count h = refl
+    plain (R.Term i) h = absurd (h refl)
+    plain R.Padding h = refl
+    plain R.Buffer h = refl
+    plain R.CandidateCoefficient h = refl
+    plain R.Sequence h = refl
+    plain R.Full h = refl
+    plain R.Catalogue h = refl
+    plain R.Record h = refl
+    plain R.CandidateLength h = refl
+    plain R.CandidateLead h = refl
 
 -- ---- where a query is wrong
 
@@ -63,6 +82,31 @@ first-term query i r f =
       large = subst (λ (z : ℕ). cellAt query 0 ≤ z) (sym (term-cell query i (omega (arith, f .wrong .within, r .count)))) (f .wrong .large);
       before = λ j k. subst (λ (z : ℕ). z < cellAt query 0) (sym (term-cell query j (omega (arith, k, f .wrong .within, r .count)))) (f .before j k);
     }
+
+-- a query that passes its checks is clean
+passed-clean : (query : List ℕ) → checkOf query ≡ O.Done → Clean query
+unfolding sequenceOf
+passed-clean query h =
+    record {
+      readable = record { size = k .0; least = k .1 .least; most = k .1 .most; count = k .1 .count };
+      below = λ i l. subst (λ (z : ℕ). z < cellAt query 0) (term-cell query i (omega (arith, l, k .1 .count))) (k .1 .below i l);
+      zeros = λ i l n. sym (term-cell query i n) ∙ k .1 .zeros i l n;
+    }
+  where
+    k : (length query ≡ queryBytes) × IsSound (sequenceOf query)
+    k = check-done query h
+
+clean-passed : (query : List ℕ) → Clean query → checkOf query ≡ O.Done
+unfolding sequenceOf
+clean-passed query c =
+    done-check query (c .readable .size)
+    (record {
+      least = c .readable .least;
+      most = c .readable .most;
+      count = c .readable .count;
+      below = λ i l. subst (λ (z : ℕ). z < cellAt query 0) (sym (term-cell query i (omega (arith, l, c .readable .count)))) (c .below i l);
+      zeros = λ i l n. term-cell query i n ∙ c .zeros i l n;
+    })
 
 -- where some term is wrong there is a first
 first-wrong : (query : List ℕ) (j : ℕ) → WrongAt query j → (i : ℕ) × FirstWrong query i
@@ -163,6 +207,8 @@ pushed-after m least most calls t =
 pub every-place : EveryPlace
 every-place =
     record {
+      passed-clean = passed-clean;
+      clean-passed = clean-passed;
       synthesized = synthesized;
       looked-up = looked-up;
       verified = verified;
@@ -207,25 +253,25 @@ flawed refused reply reached m l a b back on =
 
 tested :
     (query a b : List ℕ) (l : ℕ)
-    → Flawed W.Refused (verifyOf query a b l) ((length a ≡ aBytes) × (length b ≡ bBytes) × (checkOf query ≡ O.Done)) (cellAt query 0) l (aCells a) (bCells b)
+    → Flawed W.Refused (verifyOf query a b l) ((length a ≡ aBytes) × (length b ≡ bBytes) × Clean query) (cellAt query 0) l (aCells a) (bCells b)
 unfolding sequenceOf
 tested query a b l =
-    flawed W.Refused (verifyOf query a b l) ((length a ≡ aBytes) × (length b ≡ bBytes) × (checkOf query ≡ O.Done)) (cellAt query 0) l (aCells a) (bCells b)
-    back (λ r h e. verify-flaw query a b l (h .0) (h .1) (h .2) e)
+    flawed W.Refused (verifyOf query a b l) ((length a ≡ aBytes) × (length b ≡ bBytes) × Clean query) (cellAt query 0) l (aCells a) (bCells b)
+    back (λ r h e. verify-flaw query a b l (h .0) (h .1) (clean-passed query (h .2)) e)
   where
     flaw : Outcome
     flaw = flawOf (cellAt query 0) l (aCells a) (bCells b)
 
-    back : (r : Refusal) → 5 < refusal r .number → verifyOf query a b l ≡ W.Refused r → ((length a ≡ aBytes) × (length b ≡ bBytes) × (checkOf query ≡ O.Done)) × (flaw ≡ O.Refused r)
+    back : (r : Refusal) → 5 < refusal r .number → verifyOf query a b l ≡ W.Refused r → ((length a ≡ aBytes) × (length b ≡ bBytes) × Clean query) × (flaw ≡ O.Refused r)
     back r n e = go (v .source)
       where
         v : VerifyRefused query a b l r
         v = verify-refused query a b l e (λ k. omega (arith, n, k))
 
         go : (checkOf query ≡ O.Refused r) ⊎ ((checkOf query ≡ O.Done) × (flawOf (sequenceOf query .modulus) l (aCells a) (bCells b) ≡ O.Refused r))
-            → ((length a ≡ aBytes) × (length b ≡ bBytes) × (checkOf query ≡ O.Done)) × (flaw ≡ O.Refused r)
+            → ((length a ≡ aBytes) × (length b ≡ bBytes) × Clean query) × (flaw ≡ O.Refused r)
         go (inl k) = absurd (omega (arith, n, check-small query k))
-        go (inr k) = ((v .a-size, v .b-size, k .0), k .1)
+        go (inr k) = ((v .a-size, v .b-size, passed-clean query (k .0)), k .1)
 
 ran : (m : ℕ) (a b : List ℕ) (l : ℕ) (cells : List ℕ) → Flawed O.Refused (generateOf m a b l cells) (Runs m a b cells) m l (aCells a) (bCells b)
 ran m a b l cells =
@@ -256,12 +302,47 @@ never query catalogue out = go
     go (inr (inl e)) = from R.CandidateCoefficient (omega arith) (λ k. omega arith) (λ k. omega arith) e
     go (inr (inr e)) = from R.CandidateLead (omega arith) (λ k. omega arith) (λ k. omega arith) e
 
+-- 24 is for a record that is met and whose test does not say yes
+told-24 :
+    (query catalogue out : List ℕ) → lookUpOf query catalogue out ≡ S.Refused R.Record
+    → (i : ℕ) × (MeetsAt query catalogue out i × (testAt query catalogue i ≡ W.Yes → ⊥))
+told-24 query catalogue out h =
+    let f = fails-look-up query catalogue out h in
+    let i = firstMatch query catalogue (records catalogue) in (
+      i,
+      (
+        record { out-size = f .size; clean = passed-clean query (f .passed); whole = f .whole; match = refl; within = f .within },
+        not-yes query catalogue i (f .passed) (f .within) (f .fails),
+      ),
+    )
+
+is-24 :
+    (query catalogue out : List ℕ) (i : ℕ) → MeetsAt query catalogue out i → (testAt query catalogue i ≡ W.Yes → ⊥) → lookUpOf query catalogue out ≡ S.Refused R.Record
+is-24 query catalogue out i m n =
+    look-up-fails query catalogue out
+    (record {
+      size = m .out-size;
+      passed = passed;
+      whole = m .whole;
+      within = subst (λ (k : ℕ). k < records catalogue) (sym (m .match)) (m .within);
+      fails = ap (λ (k : ℕ). passes (sequenceOf query) (recordAt catalogue k)) (m .match) ∙ yes-not query catalogue i passed (m .within) n;
+    })
+  where
+    passed : checkOf query ≡ O.Done
+    passed = clean-passed query (m .clean)
+
+-- a test that refuses does not say yes
+covered :
+    (query catalogue out : List ℕ) (i : ℕ) → MeetsAt query catalogue out i → OneOfThree W.Refused (testAt query catalogue i) → lookUpOf query catalogue out ≡ S.Refused R.Record
+covered query catalogue out i m r = is-24 query catalogue out i m (λ e. go r e)
+  where
+    refused-yes : {x : Refusal} → testAt query catalogue i ≡ W.Refused x → testAt query catalogue i ≡ W.Yes → ⊥
+    refused-yes h e = let z : _≡_ {A = ℕ} 0 1 = cc in omega arith
+
+    go : OneOfThree W.Refused (testAt query catalogue i) → testAt query catalogue i ≡ W.Yes → ⊥
+    go (inl h) e = refused-yes h e
+    go (inr (inl h)) e = refused-yes h e
+    go (inr (inr h)) e = refused-yes h e
+
 pub every-flaw : EveryFlaw
-unfolding sequenceOf
-every-flaw =
-    record {
-      verified = tested;
-      generated = ran;
-      covered = λ query catalogue out passed long-out whole below bad. look-up-malformed query catalogue out passed long-out whole _ refl below bad;
-      never = never;
-    }
+every-flaw = record { verified = tested; generated = ran; told-24 = told-24; is-24 = is-24; covered = covered; never = never }

@@ -31,24 +31,24 @@ two = recordOf nine ++ recordOf four
 abbrev pub out : List ℕ
 out = zeros recordBytes
 
--- what C gets for a candidate of length l held against 6, 3, 1, 5, 6 modulo 9; its register has length 3, a = 1,4,7,1 and b = 6,0,1
-abbrev pub verifyCode : List ℕ → List ℕ → ℕ → ℕ
-verifyCode a b l = codeOf (verifyAnswer nine (aOf a) (bOf b) l)
+-- the answer to a candidate of length l held against 6, 3, 1, 5, 6 modulo 9; its register has length 3, a = 1,4,7,1 and b = 6,0,1
+abbrev pub verifyTo : List ℕ → List ℕ → ℕ → Answer
+verifyTo a b l = verifyAnswer nine (aOf a) (bOf b) l
 
--- for a query that is synthesized, and a candidate of length l that generates n bytes
-abbrev pub synthesizeCode : List ℕ → ℕ
-synthesizeCode query = codeOf (synthesizeAnswer query out)
+-- to a query that is synthesized, and to a candidate of length l that generates n bytes
+abbrev pub synthesizeTo : List ℕ → Answer
+synthesizeTo query = synthesizeAnswer query out
 
-abbrev pub generateCode : ℕ → List ℕ → ℕ → ℕ → ℕ
-generateCode m a l n = codeOf (generateAnswer m (aOf a) (bOf []) l (zeros n))
+abbrev pub generateTo : ℕ → List ℕ → ℕ → ℕ → Answer
+generateTo m a l n = generateAnswer m (aOf a) (bOf []) l (zeros n)
 
--- for the query looked up in a catalogue of one record with this register
-abbrev pub lookUpCode : List ℕ → List ℕ → ℕ → ℕ
-lookUpCode a b l = codeOf (lookUpAnswer nine (nine ++ (bytesOf (l ∷ []) ++ (aOf a ++ bOf b))) out)
+-- to the query looked up in a catalogue of one record with this register
+abbrev pub lookUpTo : List ℕ → List ℕ → ℕ → Answer
+lookUpTo a b l = lookUpAnswer nine (nine ++ (bytesOf (l ∷ []) ++ (aOf a ++ bOf b))) out
 
--- four terms, of which the ones at 1 and 3 are not below the modulus
-abbrev pub wrong : List ℕ
-wrong = queryOf 5 (0 ∷ 5 ∷ 4 ∷ 9 ∷ [])
+-- a query of four terms, of which those at 1 and 3 are not below the modulus
+abbrev pub wrongAt1And3 : List ℕ
+wrongAt1And3 = queryOf 5 (0 ∷ 5 ∷ 4 ∷ 9 ∷ [])
 
 -- a query with a count of its own
 abbrev pub counted : ℕ → ℕ → List ℕ → List ℕ
@@ -90,50 +90,54 @@ pub record Numbers : Type 0 where
       stored (after 6 (3 ∷ 3 ∷ [])) (replicate 5 blank)
       ≡ step 2 0 0 0 0 1 0 2 ∷ step 2 1 0 1 0 1 0 3 ∷ step 3 0 0 0 1 1 1 1 ∷ step 3 1 0 0 1 1 1 1 ∷ blank ∷ []
   pub traced-short : stored (after 6 (3 ∷ 3 ∷ [])) (replicate 3 blank) ≡ replicate 3 blank
-  pub yes : verifyCode (1 ∷ 4 ∷ 7 ∷ 1 ∷ []) (6 ∷ 0 ∷ 1 ∷ []) 3 ≡ 0
-  pub no-at-3 : verifyCode (1 ∷ 4 ∷ 7 ∷ 2 ∷ []) (6 ∷ 0 ∷ 1 ∷ []) 3 ≡ 256 * 4
-  pub ran : generateCode 9 (1 ∷ []) 0 256 ≡ 0
-  pub made : synthesizeCode nine ≡ 0
+  pub yes : codeOf (verifyTo (1 ∷ 4 ∷ 7 ∷ 1 ∷ []) (6 ∷ 0 ∷ 1 ∷ []) 3) ≡ 0
+  pub no-at-3 : codeOf (verifyTo (1 ∷ 4 ∷ 7 ∷ 2 ∷ []) (6 ∷ 0 ∷ 1 ∷ []) 3) ≡ 256 * 4
+  pub ran : codeOf (generateTo 9 (1 ∷ []) 0 256) ≡ 0
+  pub made : codeOf (synthesizeTo nine) ≡ 0
   pub made-none-found : codeOf (lookUpAnswer nine [] out) ≡ 0
   pub found-at-0 : codeOf (lookUpAnswer nine two out) ≡ 256 * 1
   pub found-at-1 : codeOf (lookUpAnswer four two out) ≡ 256 * 2
-  pub refused-1-below : synthesizeCode (queryOf 1 []) ≡ 1
-  pub refused-1-above : synthesizeCode (queryOf 4096 []) ≡ 1
-  pub refused-2 : synthesizeCode (counted 2 129 []) ≡ 2
-  pub refused-2-cells : generateCode 9 (1 ∷ []) 0 258 ≡ 2
-  pub refused-3-at-0 : synthesizeCode (queryOf 5 (5 ∷ [])) ≡ 3
-  pub refused-3-first : synthesizeCode wrong ≡ 3 + 256 * 1
-  pub refused-3-last-place : synthesizeCode (queryOf 5 (replicate 127 4 ++ (5 ∷ []))) ≡ 3 + 256 * 127
-  pub refused-3-verified : codeOf (verifyAnswer wrong (aOf (1 ∷ [])) (bOf []) 0) ≡ 3 + 256 * 1
-  pub refused-3-looked-up : codeOf (lookUpAnswer wrong two out) ≡ 3 + 256 * 1
+  pub placed-code-0 : codeOf (synthesizeTo (queryOf 5 (5 ∷ []))) ≡ 3
+  pub placed-code-1 : codeOf (lookUpAnswer wrongAt1And3 two out) ≡ 3 + 256 * 1
+  pub placed-code-127 : codeOf (synthesizeTo (queryOf 5 (replicate 127 4 ++ (5 ∷ [])))) ≡ 3 + 256 * 127
+  pub plain-code : codeOf (lookUpTo (1 ∷ 4 ∷ 7 ∷ 2 ∷ []) (6 ∷ 0 ∷ 1 ∷ []) 3) ≡ 24
+  pub refused-1-below : synthesizeTo (queryOf 1 []) ≡ refused 1
+  pub refused-1-above : synthesizeTo (queryOf 4096 []) ≡ refused 1
+  pub refused-2 : synthesizeTo (counted 2 129 []) ≡ refused 2
+  pub refused-2-cells : generateTo 9 (1 ∷ []) 0 258 ≡ refused 2
+  pub refused-3-at-0 : synthesizeTo (queryOf 5 (5 ∷ [])) ≡ refusedAt 3 0
+  pub refused-3-first : synthesizeTo wrongAt1And3 ≡ refusedAt 3 1
+  pub refused-3-last-place : synthesizeTo (queryOf 5 (replicate 127 4 ++ (5 ∷ []))) ≡ refusedAt 3 127
+  pub refused-3-verified : verifyAnswer wrongAt1And3 (aOf (1 ∷ [])) (bOf []) 0 ≡ refusedAt 3 1
+  pub refused-3-looked-up : lookUpAnswer wrongAt1And3 two out ≡ refusedAt 3 1
   pub refused-3-pushed : pushAnswer (after 9 (6 ∷ 3 ∷ [])) 9 ≡ refusedAt 3 2
-  pub refused-4 : synthesizeCode (counted 5 0 (1 ∷ [])) ≡ 4
-  pub refused-5 : synthesizeCode [] ≡ 5
-  pub refused-5-odd : generateCode 9 (1 ∷ []) 0 1 ≡ 5
+  pub refused-4 : synthesizeTo (counted 5 0 (1 ∷ [])) ≡ refused 4
+  pub refused-5 : synthesizeTo [] ≡ refused 5
+  pub refused-5-odd : generateTo 9 (1 ∷ []) 0 1 ≡ refused 5
   pub refused-5-sheet : traceTo (after 9 (6 ∷ 3 ∷ 1 ∷ 5 ∷ 6 ∷ [])) 9 ≡ refused 5
   pub refused-5-sheet-primes : traceTo (after 12 (7 ∷ [])) 2 ≡ refused 5
-  pub refused-6-a : verifyCode (1 ∷ 4 ∷ 9 ∷ 1 ∷ []) (6 ∷ 0 ∷ 1 ∷ []) 3 ≡ 6
-  pub refused-6-b : verifyCode (1 ∷ 4 ∷ 7 ∷ 1 ∷ []) (6 ∷ 9 ∷ 1 ∷ []) 3 ≡ 6
-  pub refused-6-past-a : verifyCode (1 ∷ 4 ∷ 7 ∷ 1 ∷ 1 ∷ []) (6 ∷ 0 ∷ 1 ∷ []) 3 ≡ 6
-  pub refused-6-past-b : verifyCode (1 ∷ 4 ∷ 7 ∷ 1 ∷ []) (6 ∷ 0 ∷ 1 ∷ 1 ∷ []) 3 ≡ 6
-  pub refused-6-lead-above : verifyCode (9 ∷ 4 ∷ 7 ∷ 1 ∷ []) (6 ∷ 0 ∷ 1 ∷ []) 3 ≡ 6
-  pub refused-6-run : generateCode 9 (1 ∷ 4 ∷ []) 0 2 ≡ 6
+  pub refused-6-a : verifyTo (1 ∷ 4 ∷ 9 ∷ 1 ∷ []) (6 ∷ 0 ∷ 1 ∷ []) 3 ≡ refused 6
+  pub refused-6-b : verifyTo (1 ∷ 4 ∷ 7 ∷ 1 ∷ []) (6 ∷ 9 ∷ 1 ∷ []) 3 ≡ refused 6
+  pub refused-6-past-a : verifyTo (1 ∷ 4 ∷ 7 ∷ 1 ∷ 1 ∷ []) (6 ∷ 0 ∷ 1 ∷ []) 3 ≡ refused 6
+  pub refused-6-past-b : verifyTo (1 ∷ 4 ∷ 7 ∷ 1 ∷ []) (6 ∷ 0 ∷ 1 ∷ 1 ∷ []) 3 ≡ refused 6
+  pub refused-6-lead-above : verifyTo (9 ∷ 4 ∷ 7 ∷ 1 ∷ []) (6 ∷ 0 ∷ 1 ∷ []) 3 ≡ refused 6
+  pub refused-6-run : generateTo 9 (1 ∷ 4 ∷ []) 0 2 ≡ refused 6
   pub refused-21-modulus : pushAnswer (openOf 1 .sequence) 0 ≡ refused 21
   pub refused-21-count : pushAnswer (forged 5 129 []) 0 ≡ refused 21
   pub refused-21-term : registerTo (forged 5 1 (5 ∷ [])) ≡ refused 21
   pub refused-21-padding : profileTo (forged 5 0 (1 ∷ [])) ≡ refused 21
   pub refused-21-traced : traceTo (forged 5 1 (5 ∷ [])) 1 ≡ refused 21
   pub refused-22 : pushAnswer (forged 2 128 []) 0 ≡ refused 22
-  pub refused-23 : codeOf (lookUpAnswer nine (0 ∷ []) out) ≡ 23
-  pub refused-24-long : lookUpCode (1 ∷ []) [] 129 ≡ 24
-  pub refused-24-coefficient : lookUpCode (1 ∷ 4 ∷ 9 ∷ 1 ∷ []) (6 ∷ 0 ∷ 1 ∷ []) 3 ≡ 24
-  pub refused-24-lead : lookUpCode (2 ∷ 4 ∷ 7 ∷ 1 ∷ []) (6 ∷ 0 ∷ 1 ∷ []) 3 ≡ 24
-  pub refused-24-no : lookUpCode (1 ∷ 4 ∷ 7 ∷ 2 ∷ []) (6 ∷ 0 ∷ 1 ∷ []) 3 ≡ 24
-  pub refused-25 : verifyCode (1 ∷ []) [] 129 ≡ 25
-  pub refused-25-run : generateCode 9 (1 ∷ []) 129 2 ≡ 25
-  pub refused-26 : verifyCode (2 ∷ 4 ∷ 7 ∷ 1 ∷ []) (6 ∷ 0 ∷ 1 ∷ []) 3 ≡ 26
-  pub refused-26-zero : verifyCode (0 ∷ 4 ∷ 7 ∷ 1 ∷ []) (6 ∷ 0 ∷ 1 ∷ []) 3 ≡ 26
-  pub refused-26-run : generateCode 9 (2 ∷ []) 0 2 ≡ 26
+  pub refused-23 : lookUpAnswer nine (0 ∷ []) out ≡ refused 23
+  pub refused-24-long : lookUpTo (1 ∷ []) [] 129 ≡ refused 24
+  pub refused-24-coefficient : lookUpTo (1 ∷ 4 ∷ 9 ∷ 1 ∷ []) (6 ∷ 0 ∷ 1 ∷ []) 3 ≡ refused 24
+  pub refused-24-lead : lookUpTo (2 ∷ 4 ∷ 7 ∷ 1 ∷ []) (6 ∷ 0 ∷ 1 ∷ []) 3 ≡ refused 24
+  pub refused-24-no : lookUpTo (1 ∷ 4 ∷ 7 ∷ 2 ∷ []) (6 ∷ 0 ∷ 1 ∷ []) 3 ≡ refused 24
+  pub refused-25 : verifyTo (1 ∷ []) [] 129 ≡ refused 25
+  pub refused-25-run : generateTo 9 (1 ∷ []) 129 2 ≡ refused 25
+  pub refused-26 : verifyTo (2 ∷ 4 ∷ 7 ∷ 1 ∷ []) (6 ∷ 0 ∷ 1 ∷ []) 3 ≡ refused 26
+  pub refused-26-zero : verifyTo (0 ∷ 4 ∷ 7 ∷ 1 ∷ []) (6 ∷ 0 ∷ 1 ∷ []) 3 ≡ refused 26
+  pub refused-26-run : generateTo 9 (2 ∷ []) 0 2 ≡ refused 26
 
 -- where two refusals apply, the first in the paper's order is given: the two in a row's name
 pub record Orders : Type 0 where
@@ -143,20 +147,20 @@ pub record Orders : Type 0 where
   pub trace-5-21 : traceAnswer (openOf 1 .sequence) [] [] 0 ≡ refused 5
   pub trace-21-5 : traceTo (forged 5 1 (5 ∷ [])) 0 ≡ refused 21
   pub profile-5-21 : profileAnswer (openOf 1 .sequence) [] ≡ refused 5
-  pub query-5-1 : codeOf (synthesizeAnswer (queryOf 1 []) []) ≡ 5
-  pub query-1-2 : synthesizeCode (counted 1 129 []) ≡ 1
-  pub query-2-3 : synthesizeCode (counted 5 129 (5 ∷ [])) ≡ 2
-  pub query-3-4 : synthesizeCode (counted 5 1 (5 ∷ 1 ∷ [])) ≡ 3
-  pub verify-5-1 : codeOf (verifyAnswer (queryOf 1 []) [] [] 0) ≡ 5
-  pub verify-4-25 : codeOf (verifyAnswer (counted 5 0 (1 ∷ [])) (aOf []) (bOf []) 129) ≡ 4
-  pub verify-25-6 : verifyCode (1 ∷ 9 ∷ []) [] 129 ≡ 25
-  pub verify-25-26 : verifyCode (2 ∷ []) [] 129 ≡ 25
-  pub verify-6-26 : verifyCode (2 ∷ 4 ∷ 9 ∷ 1 ∷ []) (6 ∷ 0 ∷ 1 ∷ []) 3 ≡ 6
-  pub generate-5-1 : generateCode 1 (1 ∷ []) 0 1 ≡ 5
-  pub generate-1-2 : generateCode 1 (1 ∷ []) 0 258 ≡ 1
-  pub generate-2-25 : generateCode 9 (1 ∷ []) 129 258 ≡ 2
-  pub generate-25-6 : generateCode 9 (1 ∷ 9 ∷ []) 129 2 ≡ 25
-  pub generate-6-26 : generateCode 9 (2 ∷ 9 ∷ []) 1 2 ≡ 6
-  pub look-up-5-1 : codeOf (lookUpAnswer (queryOf 1 []) (0 ∷ []) []) ≡ 5
-  pub look-up-4-23 : codeOf (lookUpAnswer (counted 5 0 (1 ∷ [])) (0 ∷ []) out) ≡ 4
-  pub look-up-23-24 : codeOf (lookUpAnswer nine (nine ++ zeros (recordBytes - queryBytes + 1)) out) ≡ 23
+  pub query-5-1 : synthesizeAnswer (queryOf 1 []) [] ≡ refused 5
+  pub query-1-2 : synthesizeTo (counted 1 129 []) ≡ refused 1
+  pub query-2-3 : synthesizeTo (counted 5 129 (5 ∷ [])) ≡ refused 2
+  pub query-3-4 : synthesizeTo (counted 5 1 (5 ∷ 1 ∷ [])) ≡ refusedAt 3 0
+  pub verify-5-1 : verifyAnswer (queryOf 1 []) [] [] 0 ≡ refused 5
+  pub verify-4-25 : verifyAnswer (counted 5 0 (1 ∷ [])) (aOf []) (bOf []) 129 ≡ refused 4
+  pub verify-25-6 : verifyTo (1 ∷ 9 ∷ []) [] 129 ≡ refused 25
+  pub verify-25-26 : verifyTo (2 ∷ []) [] 129 ≡ refused 25
+  pub verify-6-26 : verifyTo (2 ∷ 4 ∷ 9 ∷ 1 ∷ []) (6 ∷ 0 ∷ 1 ∷ []) 3 ≡ refused 6
+  pub generate-5-1 : generateTo 1 (1 ∷ []) 0 1 ≡ refused 5
+  pub generate-1-2 : generateTo 1 (1 ∷ []) 0 258 ≡ refused 1
+  pub generate-2-25 : generateTo 9 (1 ∷ []) 129 258 ≡ refused 2
+  pub generate-25-6 : generateTo 9 (1 ∷ 9 ∷ []) 129 2 ≡ refused 25
+  pub generate-6-26 : generateTo 9 (2 ∷ 9 ∷ []) 1 2 ≡ refused 6
+  pub look-up-5-1 : lookUpAnswer (queryOf 1 []) (0 ∷ []) [] ≡ refused 5
+  pub look-up-4-23 : lookUpAnswer (counted 5 0 (1 ∷ [])) (0 ∷ []) out ≡ refused 4
+  pub look-up-23-24 : lookUpAnswer nine (nine ++ zeros (recordBytes - queryBytes + 1)) out ≡ refused 23

@@ -1,9 +1,9 @@
--- The claims about refusal 3 and its place, and about 25, 6 and 26: a query's first wrong term, and what is wrong with a candidate.
+-- The claims about refusal 3 and its place, and about 25, 6, 26 and 24: a query's first wrong term, and what is wrong with a candidate.
 -- Assumes nothing.
 use mathlib.Core.Path.{_≡_}
 use mathlib.Core.Logic.{_⊎_}
 use mathlib.Core.List.{List}
-use Prim.Native.Nat.{ℕ, zero, _+_, _/_, _%_, _≤_, _<_}
+use Prim.Native.Nat.{ℕ, zero, _+_, _*_, _/_, _%_, _≤_, _<_}
 use lib.ListN.{length, take, drop}
 use Rattle.lists.specs.Table.{at}
 use Rattle.cells.specs.Cell.{cellAt}
@@ -12,12 +12,24 @@ use Rattle.sequence.specs.declared.Refusal.{Refusal}
 use Rattle.sequence.specs.declared.Refusal.the-variants as R
 use Rattle.sequence.specs.declared.Outcome.the-variants as O
 use Rattle.sequence.specs.Limits.{maxModulus, maxTerms, queryBytes, aBytes, bBytes}
+use Rattle.sequence.specs.Answers.{refused, refusedAt, refusal}
 use Rattle.sequence.specs.Rules.{IsSound, openOf, pushOf, checkOf}
+use Rattle.candidate.specs.declared.Verdict.{Verdict}
 use Rattle.candidate.specs.declared.Verdict.the-variants as W
 use Rattle.candidate.specs.Rules.{aCells, bCells, Fits, IsFine, verifyOf, generateOf}
 use Rattle.catalogue.specs.declared.LookedUp.the-variants as S
 use Rattle.catalogue.specs.Rules.{recordBytes, aPlace, bPlace, lengthCell, records, recordAt, firstMatch, synthesizeOf, lookUpOf}
+use Rattle.diverthrone.specs.Codes.{codeOf}
 use Rattle.guarantees.specs.Calls.{Call, afterAll, taken}
+
+-- ---- the place that a refusal carries
+
+-- 3 carries one place, the value that C gets; no other refusal carries any
+pub record OnlyThree : Type 0 where
+  pub placed : (i : ℕ) → refusal (R.Term i) ≡ refusedAt 3 i
+  pub plain : (r : Refusal) → (refusal r .number ≡ 3 → ⊥) → refusal r ≡ refused (refusal r .number)
+  pub placed-code : (i : ℕ) → codeOf (refusedAt 3 i) ≡ 3 + 256 * i
+  pub plain-code : (n : ℕ) → codeOf (refused n) ≡ n
 
 -- ---- where a query is wrong
 
@@ -38,6 +50,12 @@ pub record FirstWrong (query : List ℕ) (i : ℕ) : Type 0 where
   pub wrong : WrongAt query i
   pub before : (j : ℕ) → j < i → cellAt query (2 + j) < cellAt query 0
 
+-- none of the query's own refusals applies: its terms are below the modulus, and what is past them is zero
+pub record Clean (query : List ℕ) : Type 0 where
+  pub readable : Readable query
+  pub below : (i : ℕ) → i < cellAt query 1 → cellAt query (2 + i) < cellAt query 0
+  pub zeros : (i : ℕ) → cellAt query 1 ≤ i → i < maxTerms → cellAt query (2 + i) ≡ zero
+
 -- The reply to a query, where `refused` makes one of a refusal and `lent` says that the other buffers have their lengths: none of 5.
 pub record Placed {A : Type 0} (refused : Refusal → A) (reply : A) (lent : Type 0) (query : List ℕ) : Type 0 where
   -- it is 3 at place i exactly when none of 5, 1, 2 applies and i is the first wrong place
@@ -51,12 +69,14 @@ pub record PushPlaced (m n : ℕ) (s : Sequence) (t : ℕ) : Type 0 where
   pub told-large : (i : ℕ) → pushOf s t .outcome ≡ O.Refused (R.Term i) → (n < maxTerms) × (m ≤ t) × (i ≡ n)
   pub large-told : n < maxTerms → m ≤ t → pushOf s t .outcome ≡ O.Refused (R.Term n)
 
--- every call that replies 3
+-- every call that replies 3; and a query that is clean passes its checks, which is what the claims about records and about testing ask
 pub record EveryPlace : Type 0 where
+  pub passed-clean : (query : List ℕ) → checkOf query ≡ O.Done → Clean query
+  pub clean-passed : (query : List ℕ) → Clean query → checkOf query ≡ O.Done
   pub synthesized : (query out : List ℕ) → Placed O.Refused (synthesizeOf query out) (length out ≡ recordBytes) query
   pub looked-up : (query catalogue out : List ℕ) → Placed S.Refused (lookUpOf query catalogue out) (length out ≡ recordBytes) query
   pub verified : (query a b : List ℕ) (l : ℕ) → Placed W.Refused (verifyOf query a b l) ((length a ≡ aBytes) × (length b ≡ bBytes)) query
-  -- a push to any sequence; one that is not sound never gets 3
+  -- a push to a sound sequence; one to another never gets 3
   pub pushed : (s : Sequence) (t : ℕ) → IsSound s → PushPlaced (s .modulus) (s .count) s t
   pub pushed-sound : (s : Sequence) (t i : ℕ) → pushOf s t .outcome ≡ O.Refused (R.Term i) → IsSound s
   -- after every list of calls the place is the number of terms taken
@@ -93,20 +113,35 @@ pub record Runs (m : ℕ) (a b cells : List ℕ) : Type 0 where
   pub most : m ≤ maxModulus
   pub count : length cells / 2 ≤ maxTerms
 
--- the register in record i of a catalogue is a well-formed candidate modulo m
-abbrev pub FineAt : ℕ → List ℕ → ℕ → Type 0
-FineAt m catalogue i =
-    let entry = recordAt catalogue i in
-    IsFine m (cellAt entry lengthCell) (aCells (take aBytes (drop aPlace entry))) (bCells (take bBytes (drop bPlace entry)))
+-- looking up meets record i: no refusal before 24 applies, and record i is the first with this query
+pub record MeetsAt (query catalogue out : List ℕ) (i : ℕ) : Type 0 where
+  pub out-size : length out ≡ recordBytes
+  pub clean : Clean query
+  pub whole : length catalogue % recordBytes ≡ zero
+  pub match : firstMatch query catalogue (records catalogue) ≡ i
+  pub within : i < records catalogue
 
--- every call that is handed a candidate, and looking up, where 24 covers all three
+-- what testing the register in record i against the query replies
+abbrev pub testAt : List ℕ → List ℕ → ℕ → Verdict
+testAt query catalogue i =
+    let entry = recordAt catalogue i in
+    verifyOf query (take aBytes (drop aPlace entry)) (take bBytes (drop bPlace entry)) (cellAt entry lengthCell)
+
 pub record EveryFlaw : Type 0 where
+  -- the calls that are handed a candidate
   pub verified :
       (query a b : List ℕ) (l : ℕ)
-      → Flawed W.Refused (verifyOf query a b l) ((length a ≡ aBytes) × (length b ≡ bBytes) × (checkOf query ≡ O.Done)) (cellAt query 0) l (aCells a) (bCells b)
+      → Flawed W.Refused (verifyOf query a b l) ((length a ≡ aBytes) × (length b ≡ bBytes) × Clean query) (cellAt query 0) l (aCells a) (bCells b)
   pub generated : (m : ℕ) (a b : List ℕ) (l : ℕ) (cells : List ℕ) → Flawed O.Refused (generateOf m a b l cells) (Runs m a b cells) m l (aCells a) (bCells b)
+  -- looking up gives 24 exactly when it meets a record whose test does not say yes
+  pub told-24 :
+      (query catalogue out : List ℕ) → lookUpOf query catalogue out ≡ S.Refused R.Record
+      → (i : ℕ) × (MeetsAt query catalogue out i × (testAt query catalogue i ≡ W.Yes → ⊥))
+  pub is-24 :
+      (query catalogue out : List ℕ) (i : ℕ) → MeetsAt query catalogue out i → (testAt query catalogue i ≡ W.Yes → ⊥)
+      → lookUpOf query catalogue out ≡ S.Refused R.Record
+  -- so 24 covers all three, and none of them is passed on
   pub covered :
-      (query catalogue out : List ℕ) → checkOf query ≡ O.Done → length out ≡ recordBytes → length catalogue % recordBytes ≡ zero
-      → firstMatch query catalogue (records catalogue) < records catalogue
-      → (FineAt (cellAt query 0) catalogue (firstMatch query catalogue (records catalogue)) → ⊥) → lookUpOf query catalogue out ≡ S.Refused R.Record
+      (query catalogue out : List ℕ) (i : ℕ) → MeetsAt query catalogue out i → OneOfThree W.Refused (testAt query catalogue i)
+      → lookUpOf query catalogue out ≡ S.Refused R.Record
   pub never : (query catalogue out : List ℕ) → OneOfThree S.Refused (lookUpOf query catalogue out) → ⊥

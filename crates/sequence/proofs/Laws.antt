@@ -260,6 +260,10 @@ check-done query h = go (eqb (length query) queryBytes) refl h
     go true e h = (eqb-true _ _ e, sound-of (sequenceOf query) (ap isSound h))
     go false e h = let z : _≡_ {A = Bool} false true = cc in false-true z
 
+pub done-check : (query : List ℕ) → length query ≡ queryBytes → IsSound (sequenceOf query) → checkOf query ≡ Done
+unfolding checkOf
+done-check query h k = rw (eq-eqb _ _ h) (of-sound (sequenceOf query) k)
+
 -- what `check` tells
 pub checked : (query : List ℕ) {x : Checked} → x ≡ checkedOf query → x .outcome ≡ checkOf query
 unfolding checkedOf
