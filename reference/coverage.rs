@@ -58,7 +58,7 @@ fn often(group: &mut Group, times: usize, words: impl Fn() -> String) {
 }
 
 /// Each call meets all its refusals and no other. Each 3 and nothing else has a place, and
-/// the takings have the least, the largest and others.
+/// every call that gives it has the least, the largest and others.
 fn refusals_met(group: &mut Group, text: &str) {
     let mut tally = Tally::new();
     let mut places = Tally::new();
@@ -89,60 +89,76 @@ fn refusals_met(group: &mut Group, text: &str) {
     for call in ["verify", "synthesize", "look_up", "listing"] {
         let others = places.keys().filter(|(name, place)| *name == call && *place > 0).count();
         often(group, others, || format!("{call} refused 3 at other places than 0"));
-        let first = places.get(&(call, 0)).copied().unwrap_or(0);
-        often(group, first, || format!("{call} refused 3 at 0"));
+        for place in [0, TERMS_LIMIT - 1] {
+            let times = places.get(&(call, place)).copied().unwrap_or(0);
+            often(group, times, || format!("{call} refused 3 at {place}"));
+        }
     }
 }
 
-/// The ways in which a slip has terms out of range, alone and several.
+/// What the slips must have: terms out of range, alone and several, of each value, and 4.
+const KINDS_OF_SLIPS: [&str; 13] = [
+    "one, at 127",
+    "one, at the start",
+    "one, at the end",
+    "one, in the middle",
+    "several, from the start on",
+    "several, up to the end",
+    "several, in the middle",
+    "the modulus",
+    "another term",
+    "65,535",
+    "a low byte in range",
+    "past the count alone",
+    "another 4",
+];
+
 fn slips_met(group: &mut Group, slips: &[u8]) {
     let mut tally = Tally::new();
     for slip in slips.chunks_exact(SLIP_BYTES) {
-        let numbers = cells(slip);
-        let (m, terms) = (numbers[0], &numbers[2..]);
-        let places = offending(slip);
-        let last = (numbers[1] as usize).saturating_sub(1);
-        match places[..] {
-            [] => {}
-            [127] => count(&mut tally, "one, at 127"),
-            [0] => count(&mut tally, "one, at the start"),
-            [place] if place == last => count(&mut tally, "one, at the end"),
-            [_] => count(&mut tally, "one, in the middle"),
-            [0, ..] => count(&mut tally, "several, from the start on"),
-            [_, .., end] if end == last => count(&mut tally, "several, up to the end"),
-            [..] => count(&mut tally, "several, in the middle"),
-        }
-        if let Some(&place) = places.first() {
-            let value = terms[place];
-            count(&mut tally, if value == m { "the modulus" } else { "another term" });
-            if value == 65535 {
-                count(&mut tally, "65,535");
-            }
-            if value % 256 < m && m <= 256 {
-                count(&mut tally, "a low byte in range");
-            }
-        } else if check_slip(slip).is_err_and(|refusal| refusal.number() == 4) {
-            let large = terms.iter().skip(last + 1).any(|&cell| cell >= m);
-            count(&mut tally, if large { "past the count alone" } else { "another 4" });
+        for kind in kinds_of_slip(slip) {
+            count(&mut tally, kind);
         }
     }
-    let kinds = [
-        "one, at 127",
-        "one, at the start",
-        "one, at the end",
-        "one, in the middle",
-        "several, from the start on",
-        "several, up to the end",
-        "several, in the middle",
-        "the modulus",
-        "another term",
-        "65,535",
-        "a low byte in range",
-        "past the count alone",
-        "another 4",
-    ];
-    for kind in kinds {
+    for kind in KINDS_OF_SLIPS {
         often(group, tally.get(kind).copied().unwrap_or(0), || format!("slips: {kind}"));
+    }
+}
+
+/// The kinds that one slip is of.
+fn kinds_of_slip(slip: &[u8]) -> Vec<&'static str> {
+    let numbers = cells(slip);
+    let (m, terms) = (numbers[0], &numbers[2..]);
+    let last = (numbers[1] as usize).saturating_sub(1);
+    let places = offending(slip);
+    let Some(&place) = places.first() else {
+        let four = check_slip(slip).is_err_and(|refusal| refusal.number() == 4);
+        let large = terms.iter().skip(last + 1).any(|&cell| cell >= m);
+        let kind = if large { "past the count alone" } else { "another 4" };
+        return if four { vec![kind] } else { Vec::new() };
+    };
+    let value = terms[place];
+    let mut kinds = vec![kind_of_places(&places, last)];
+    kinds.push(if value == m { "the modulus" } else { "another term" });
+    if value == 65535 {
+        kinds.push("65,535");
+    }
+    if value % 256 < m && m <= 256 {
+        kinds.push("a low byte in range");
+    }
+    kinds
+}
+
+/// Where the terms out of range stand; there is at least one.
+fn kind_of_places(places: &[usize], last: usize) -> &'static str {
+    match places {
+        [127] => "one, at 127",
+        [0] => "one, at the start",
+        [place] if *place == last => "one, at the end",
+        [_] => "one, in the middle",
+        [0, ..] => "several, from the start on",
+        [.., end] if *end == last => "several, up to the end",
+        _ => "several, in the middle",
     }
 }
 

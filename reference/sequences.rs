@@ -201,7 +201,7 @@ pub fn damage(random: &mut Random, slip: &mut [u8]) {
 fn put_fault(random: &mut Random, slip: &mut [u8]) {
     let modulus = u16::from_le_bytes([slip[0], slip[1]]);
     let count = usize::from(u16::from_le_bytes([slip[2], slip[3]])).min(TERMS_LIMIT);
-    match random.below(8) {
+    match random.below(9) {
         0 => {
             let wrong = random.pick(&[0, 1, 4096, 4097, 65535]);
             set_cell(slip, 0, wrong);
@@ -222,6 +222,12 @@ fn put_fault(random: &mut Random, slip: &mut [u8]) {
             let bit = 1 << random.below(16);
             let wrong = random.pick(&[bit, 1, 256, modulus, 65535]);
             set_cell(slip, 2 + place, wrong);
+        }
+        8 => {
+            // A full slip, out of range at the last place.
+            set_cell(slip, 1, TERMS_LIMIT as u16);
+            let wrong = not_below(random, modulus);
+            set_cell(slip, 1 + TERMS_LIMIT, wrong);
         }
         _ => {}
     }

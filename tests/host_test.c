@@ -380,39 +380,42 @@ static void longest(void) {
     refused(generate(9, &a, &b, 128, &cells), 6, &cells, "b_127 is m, with length 128");
 }
 
-/* A malformed candidate for case 3: its refusal when it is tested and when it is run, and 24 when it is found. */
+/* Candidates for case 3 that are malformed, with the refusal of each. */
+static const struct {
+    unsigned a[5], b[4], l, refusal;
+    const char *what;
+} flaws[] = {
+    {{1, 4, 7, 1}, {6, 0, 1}, 129, 25, "the length is 129"},
+    {{1, 4, 7, 1}, {6, 0, 1}, 256 + 3, 25, "the length is 259"},
+    {{1, 4, 7, 1}, {6, 0, 1}, 65535, 25, "the length is 65,535"},
+    {{1, 4, 9, 1}, {6, 0, 1}, 3, 6, "a_2 is m"},
+    {{1, 4, 7, 10}, {6, 0, 1}, 3, 6, "a_3 is m + 1"},
+    {{1, 65535, 7, 1}, {6, 0, 1}, 3, 6, "a_1 is 65,535"},
+    {{1, 4, 7, 1}, {6, 9, 1}, 3, 6, "b_1 is m"},
+    {{1, 4, 7, 1}, {15, 0, 1}, 3, 6, "b_0 is m too large"},
+    {{1, 4, 7, 1, 1}, {6, 0, 1}, 3, 6, "a_4 is 1, past the length"},
+    {{1, 4, 7, 1, 9}, {6, 0, 1}, 3, 6, "a_4 is m, past the length"},
+    {{1, 4, 7, 1}, {6, 0, 1, 1}, 3, 6, "b_3 is 1, past the length"},
+    {{1, 4, 7, 1}, {6, 0, 1}, 2, 6, "the length is one too small"},
+    {{9, 4, 7, 1}, {6, 0, 1}, 3, 6, "a_0 is m"},
+    {{10, 4, 7, 1}, {6, 0, 1}, 3, 6, "a_0 is m + 1"},
+    {{257, 4, 7, 1}, {6, 0, 1}, 3, 6, "a_0 is 257, whose low byte is 1"},
+    {{0, 4, 7, 1}, {6, 0, 1}, 3, 26, "a_0 is 0"},
+    {{2, 4, 7, 1}, {6, 0, 1}, 3, 26, "a_0 is 2"},
+    {{8, 4, 7, 1}, {6, 0, 1}, 3, 26, "a_0 is m - 1"},
+    {{0}, {0}, 0, 26, "all is zero"},
+    {{1, 4, 9, 1}, {6, 0, 1}, 129, 25, "25 comes before 6, for a_2"},
+    {{1, 4, 7, 1}, {6, 9, 1}, 129, 25, "25 comes before 6, for b_1"},
+    {{9, 4, 7, 1}, {6, 0, 1}, 129, 25, "25 comes before 6, for a_0"},
+    {{2, 4, 7, 1}, {6, 0, 1}, 129, 25, "25 comes before 26"},
+    {{0, 4, 9, 1}, {6, 0, 1}, 129, 25, "25 comes before 6 and 26"},
+    {{2, 4, 9, 1}, {6, 0, 1}, 3, 6, "6 comes before 26, for a_2"},
+    {{2, 4, 7, 1}, {6, 9, 1}, 3, 6, "6 comes before 26, for b_1"},
+    {{0, 4, 7, 1, 1}, {6, 0, 1}, 3, 6, "6 comes before 26, for a past the length"},
+    {{8, 4, 7, 1}, {6, 0, 1, 1}, 3, 6, "6 comes before 26, for b past the length"}};
+
+/* Each of them when it is tested and when it is run, and 24 when it is found. */
 static void malformed(void) {
-    static const struct {
-        unsigned a[5], b[4], l, refusal;
-        const char *what;
-    } flaws[] = {{{1, 4, 7, 1}, {6, 0, 1}, 129, 25, "the length is 129"},
-                 {{1, 4, 7, 1}, {6, 0, 1}, 256 + 3, 25, "the length is 259"},
-                 {{1, 4, 7, 1}, {6, 0, 1}, 65535, 25, "the length is 65,535"},
-                 {{1, 4, 9, 1}, {6, 0, 1}, 3, 6, "a_2 is m"},
-                 {{1, 4, 7, 10}, {6, 0, 1}, 3, 6, "a_3 is m + 1"},
-                 {{1, 65535, 7, 1}, {6, 0, 1}, 3, 6, "a_1 is 65,535"},
-                 {{1, 4, 7, 1}, {6, 9, 1}, 3, 6, "b_1 is m"},
-                 {{1, 4, 7, 1}, {15, 0, 1}, 3, 6, "b_0 is m too large"},
-                 {{1, 4, 7, 1, 1}, {6, 0, 1}, 3, 6, "a_4 is 1, past the length"},
-                 {{1, 4, 7, 1, 9}, {6, 0, 1}, 3, 6, "a_4 is m, past the length"},
-                 {{1, 4, 7, 1}, {6, 0, 1, 1}, 3, 6, "b_3 is 1, past the length"},
-                 {{1, 4, 7, 1}, {6, 0, 1}, 2, 6, "the length is one too small"},
-                 {{9, 4, 7, 1}, {6, 0, 1}, 3, 6, "a_0 is m"},
-                 {{10, 4, 7, 1}, {6, 0, 1}, 3, 6, "a_0 is m + 1"},
-                 {{257, 4, 7, 1}, {6, 0, 1}, 3, 6, "a_0 is 257, whose low byte is 1"},
-                 {{0, 4, 7, 1}, {6, 0, 1}, 3, 26, "a_0 is 0"},
-                 {{2, 4, 7, 1}, {6, 0, 1}, 3, 26, "a_0 is 2"},
-                 {{8, 4, 7, 1}, {6, 0, 1}, 3, 26, "a_0 is m - 1"},
-                 {{0}, {0}, 0, 26, "all is zero"},
-                 {{1, 4, 9, 1}, {6, 0, 1}, 129, 25, "25 comes before 6, for a_2"},
-                 {{1, 4, 7, 1}, {6, 9, 1}, 129, 25, "25 comes before 6, for b_1"},
-                 {{9, 4, 7, 1}, {6, 0, 1}, 129, 25, "25 comes before 6, for a_0"},
-                 {{2, 4, 7, 1}, {6, 0, 1}, 129, 25, "25 comes before 26"},
-                 {{0, 4, 9, 1}, {6, 0, 1}, 129, 25, "25 comes before 6 and 26"},
-                 {{2, 4, 9, 1}, {6, 0, 1}, 3, 6, "6 comes before 26, for a_2"},
-                 {{2, 4, 7, 1}, {6, 9, 1}, 3, 6, "6 comes before 26, for b_1"},
-                 {{0, 4, 7, 1, 1}, {6, 0, 1}, 3, 6, "6 comes before 26, for a past the length"},
-                 {{8, 4, 7, 1}, {6, 0, 1, 1}, 3, 6, "6 comes before 26, for b past the length"}};
     make_query(&q, 9, nine, 5);
     lend(&r, RECORD, 0x5A), lend(&cells, 10, 0x5A);
     for (size_t i = 0; i < sizeof flaws / sizeof *flaws; i++) {
