@@ -68,7 +68,7 @@ fn fits(m: u32, l: u32, a: &[u8], b: &[u8]) -> bool
     false
 }
 
-// The refusal of a candidate by its tests, in the order 25, 6, 26.
+// The refusal of a candidate by what is wrong with it, in the order 25, 6, 26: the length, a coefficient, a_0.
 fn first_flaw(long: bool, coefficient: bool, lead: bool) -> Outcome
     ensures { λ r. ⌜ r ≡ flawBy long coefficient lead ⌝ }
 {
