@@ -55,6 +55,12 @@ fits-of m l a b h =
     past : both (zeroFrom (l + 1) maxCells a) (zeroFrom l maxTerms b) ≡ true
     past = both-right (allBelow m maxTerms b) _ below
 
+-- the last of the four tests decides where the others passed
+pub fits-last :
+    (m l : ℕ) (a b : List ℕ) {r : Bool} → allBelow m maxCells a ≡ true → allBelow m maxTerms b ≡ true → zeroFrom (l + 1) maxCells a ≡ true
+    → r ≡ zeroFrom l maxTerms b → r ≡ fits m l a b
+fits-last m l a b x y z e = rw (x, y, z) e
+
 -- each of the three refusals with its condition, or none of them
 pub data Found (m l : ℕ) (a b : List ℕ) (o : Outcome) : Type 0 where
   long : maxTerms < l → o ≡ Refused R.CandidateLength → Found m l a b o

@@ -1,6 +1,9 @@
 -- `candidate::fits` meets its contract: each reply is the one that its tests pick.
 -- Assumes nothing.
+use mathlib.Core.Path.{sym, _∙_}
 use borrow.Author.Needs.{needs}
+use Rattle.candidate.specs.Rules.{aCells, bCells}
+use Rattle.candidate.proofs.Laws.{fits-last}
 use Rattle.candidate.proofs.fits.Statement.{statement}
 use Rattle.candidate.proofs.fits.Tie as tie
 
@@ -23,14 +26,12 @@ returns : tie.Need-returns
 returns c =
     let r = c .before .before in
     let q = r .before .before in
-    rw (
-      ← q .before .before .all-below .ensures,
-      q .before .if1 .taken,
-      ← q .all-below2 .ensures,
-      r .before .if2 .taken,
-      ← r .zero-from .ensures,
-      c .before .if3 .taken,
-    )
+    let p = q .before .before in
+    let v = p .before .before .before .args in
+    fits-last (v .m) (v .l) (aCells (v .a .now)) (bCells (v .b .now))
+    (sym (p .all-below .ensures) ∙ q .before .if1 .taken)
+    (sym (q .all-below2 .ensures) ∙ r .before .if2 .taken)
+    (sym (r .zero-from .ensures) ∙ c .before .if3 .taken)
     (c .zero-from2 .ensures)
 
 returns-2 : tie.Need-returns-2
