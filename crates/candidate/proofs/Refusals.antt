@@ -8,7 +8,7 @@ use Prim.Native.Nat.{ℕ, zero, _/_, _%_, _≤_, _<_}
 use native.Mathlib.Omega.{arith}
 use lib.Dec.{ltb, eqb}
 use lib.ListN.{length}
-use borrow.Author.Tests.{ltb-false, eqb-true, le-ltb, eq-eqb}
+use borrow.Author.Tests.{ltb-false, eqb-true, eq-eqb}
 use Rattle.lists.specs.Choice.{pick}
 use Rattle.lists.specs.Table.{at}
 use Rattle.recurrence.specs.Running.{firstDifference}
@@ -22,6 +22,7 @@ use Rattle.sequence.specs.Rules.{outside, sequenceOf, checkOf}
 use Rattle.sequence.proofs.Laws.{inside, refused-done, same-number}
 use Rattle.candidate.specs.declared.Verdict.the-variants as W
 use Rattle.candidate.specs.Rules.{aCells, bCells, flawOf, Fits, IsFine, verdictOf, judgeOf, orElse, verifyOf, generateOf}
+use Rattle.candidate.proofs.Testing.{verify-judges}
 use Rattle.candidate.proofs.Laws.{Found, long, coefficient, lead, fine, found, of-fine}
 
 -- the refusals of a candidate are numbered from 6 on
@@ -131,8 +132,8 @@ verify-query query a b l ha hb h = rw (eq-eqb (length a) aBytes ha, eq-eqb (leng
 pub verify-flaw :
     (query a b : List ℕ) (l : ℕ) {r : Refusal} → length a ≡ aBytes → length b ≡ bBytes → checkOf query ≡ Done
     → flawOf (sequenceOf query .modulus) l (aCells a) (bCells b) ≡ Refused r → verifyOf query a b l ≡ W.Refused r
-unfolding verifyOf judgeOf
-verify-flaw query a b l ha hb h k = rw (eq-eqb (length a) aBytes ha, eq-eqb (length b) bBytes hb, h, k)
+unfolding judgeOf
+verify-flaw query a b l ha hb h k = verify-judges query a b l h ha hb ∙ rw k
 
 -- and a refusal other than 5 for a and b is one of these
 pub record VerifyRefused (query a b : List ℕ) (l : ℕ) (r : Refusal) : Type 0 where
@@ -168,21 +169,7 @@ verify-refused query a b l {r} h other =
 
 -- ---- running
 
--- where no refusal before them applies, the refusals are those of the candidate
-pub generate-flaw :
-    (m : ℕ) (a b : List ℕ) (l : ℕ) (cells : List ℕ) → length a ≡ aBytes → length b ≡ bBytes → length cells % 2 ≡ zero → 2 ≤ m → m ≤ maxModulus → length cells / 2 ≤ maxTerms
-    → generateOf m a b l cells ≡ flawOf m l (aCells a) (bCells b)
-unfolding generateOf
-generate-flaw m a b l cells ha hb even least most few =
-    rw (
-      eq-eqb (length a) aBytes ha,
-      eq-eqb (length b) bBytes hb,
-      eq-eqb (length cells % 2) 0 even,
-      le-ltb m 2 least,
-      le-ltb maxModulus m most,
-      le-ltb maxTerms (length cells / 2) few,
-    )
-
+-- where a run is refused by a number above 5, no refusal before those of the candidate applies
 pub record GenerateRefused (m : ℕ) (a b : List ℕ) (l : ℕ) (cells : List ℕ) (r : Refusal) : Type 0 where
   pub a-size : length a ≡ aBytes
   pub b-size : length b ≡ bBytes

@@ -31,19 +31,24 @@ pub verify-judges : (query a b : List ℕ) (l : ℕ) → checkOf query ≡ Done 
 unfolding verifyOf
 verify-judges query a b l h ha hb = rw (eq-eqb (length a) aBytes ha, eq-eqb (length b) bBytes hb, h)
 
-pub generate-done : (m : ℕ) (a b : List ℕ) (l : ℕ) (cells : List ℕ) (n : ℕ) → 2 ≤ m → m ≤ maxModulus → length a ≡ aBytes → length b ≡ bBytes
-    → flawOf m l (aCells a) (bCells b) ≡ Done → length cells ≡ 2 * n → n ≤ maxTerms → generateOf m a b l cells ≡ Done
+-- where no refusal of a run before them applies, the candidate's decide
+pub generate-flaw :
+    (m : ℕ) (a b : List ℕ) (l : ℕ) (cells : List ℕ) → length a ≡ aBytes → length b ≡ bBytes → length cells % 2 ≡ zero → 2 ≤ m → m ≤ maxModulus → length cells / 2 ≤ maxTerms
+    → generateOf m a b l cells ≡ flawOf m l (aCells a) (bCells b)
 unfolding generateOf
-generate-done m a b l cells n least most ha hb good long few =
+generate-flaw m a b l cells ha hb even least most few =
     rw (
       eq-eqb (length a) aBytes ha,
       eq-eqb (length b) bBytes hb,
-      eq-eqb (length cells % 2) 0 (omega arith),
+      eq-eqb (length cells % 2) 0 even,
       le-ltb m 2 least,
       le-ltb maxModulus m most,
-      le-ltb maxTerms (length cells / 2) (omega arith),
-      good,
+      le-ltb maxTerms (length cells / 2) few,
     )
+
+pub generate-done : (m : ℕ) (a b : List ℕ) (l : ℕ) (cells : List ℕ) (n : ℕ) → 2 ≤ m → m ≤ maxModulus → length a ≡ aBytes → length b ≡ bBytes
+    → flawOf m l (aCells a) (bCells b) ≡ Done → length cells ≡ 2 * n → n ≤ maxTerms → generateOf m a b l cells ≡ Done
+generate-done m a b l cells n least most ha hb good long few = generate-flaw m a b l cells ha hb (omega arith) least most (omega arith) ∙ good
 
 -- ---- verdicts
 

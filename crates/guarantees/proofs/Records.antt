@@ -37,6 +37,7 @@ use Rattle.candidate.proofs.Laws.{of-fine, no-difference}
 use Rattle.catalogue.specs.declared.LookedUp.{LookedUp}
 use Rattle.catalogue.specs.declared.LookedUp.the-variants.{Found, Made}
 use Rattle.catalogue.specs.Rules.{recordBytes, recordOf, synthesizeOf, recordAt, queryAt, records, firstMatch, matchOf, passes, serveOf, fetchOf, lookUpOf, servedIn}
+use Rattle.catalogue.proofs.Refusals.{synthesize-query}
 use Rattle.catalogue.proofs.Places.{layout-query, layout-a, layout-b, layout-length-cell}
 use Rattle.guarantees.specs.Calls.{Call, push, afterAll, taken}
 use Rattle.guarantees.specs.Claims.{MadeRecord, MadeCatalogue, termsOf, AgreesWith, MadeServedReported}
@@ -211,8 +212,7 @@ record-query query h = layout-query query (sequenceOf query) h
 -- ---- making
 
 making : (query out : List ℕ) → checkOf query ≡ Done → length out ≡ recordBytes → synthesizeOf query out ≡ Done
-unfolding synthesizeOf
-making query out fine h = rw (eq-eqb (length out) recordBytes h) fine
+making query out fine h = synthesize-query query out h ∙ fine
 
 making-checked : (query out : List ℕ) → synthesizeOf query out ≡ Done → checkOf query ≡ Done
 unfolding synthesizeOf

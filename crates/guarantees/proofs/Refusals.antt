@@ -9,9 +9,7 @@ use native.Mathlib.Omega.{arith}
 use lib.Dec.{leb}
 use lib.ListN.{length}
 use borrow.Author.Tests.{leb-true, leb-false, le-leb}
-use Rattle.lists.specs.Table.{at}
 use Rattle.lists.specs.Search.{first}
-use Rattle.lists.proofs.Table.{at-tabulate}
 use Rattle.lists.proofs.Search.{first-before, first-found}
 use Rattle.cells.specs.Cell.{cellAt}
 use Rattle.sequence.specs.declared.Sequence.{Sequence}
@@ -23,11 +21,12 @@ use Rattle.sequence.specs.declared.Pushed.{Pushed}
 use Rattle.sequence.specs.Limits.{maxModulus, maxTerms, queryBytes, aBytes, bBytes}
 use Rattle.sequence.specs.Answers.{refused, refusal}
 use Rattle.sequence.specs.Rules.{IsSound, openOf, pushOf, sequenceOf, checkOf}
-use Rattle.sequence.proofs.Laws.{TermAt, term-check, check-term, check-small, check-done, done-check, same-number, refused-done, Push, unsound, full, large, done, pushing, push-large, sound-of}
+use Rattle.sequence.proofs.Laws.{term-cell, TermAt, term-check, check-term, check-small, check-done, done-check, same-number, refused-done, Push, unsound, full, large, done, pushing, push-large, sound-of}
 use Rattle.candidate.specs.declared.Verdict.the-variants as W
 use Rattle.candidate.specs.Rules.{aCells, bCells, flawOf, IsFine, verifyOf, generateOf}
 use Rattle.candidate.proofs.Laws.{Found, long, coefficient, lead, fine, found}
-use Rattle.candidate.proofs.Refusals.{flaw-large, told-long, long-told, told-coefficient, coefficient-told, told-lead, lead-told, told-malformed, VerifyRefused, verify-query, verify-flaw, verify-refused, generate-flaw, generate-refused}
+use Rattle.candidate.proofs.Refusals.{flaw-large, told-long, long-told, told-coefficient, coefficient-told, told-lead, lead-told, told-malformed, VerifyRefused, verify-query, verify-flaw, verify-refused, generate-refused}
+use Rattle.candidate.proofs.Testing.{generate-flaw}
 use Rattle.catalogue.specs.declared.LookedUp.the-variants as S
 use Rattle.catalogue.specs.Rules.{recordBytes, records, recordAt, firstMatch, passes, synthesizeOf, lookUpOf}
 use Rattle.catalogue.proofs.Refusals.{synthesize-query, synthesize-refused, LookUpRefused, look-up-query, look-up-refused, look-up-fails, fails-look-up, not-yes, yes-not}
@@ -55,11 +54,6 @@ only-three = record { placed = λ i. refl; plain = plain; placed-code = λ i. re
     plain R.CandidateLead h = refl
 
 -- ---- where a query is wrong
-
--- a term of the sequence is a cell of the query
-term-cell : (query : List ℕ) (i : ℕ) → i < maxTerms → at (sequenceOf query .terms) i ≡ cellAt query (2 + i)
-unfolding sequenceOf
-term-cell query i h = at-tabulate maxTerms (λ i. cellAt query (2 + i)) i h
 
 readable-first : (query : List ℕ) (i : ℕ) → length query ≡ queryBytes → TermAt (sequenceOf query) i → Readable query × FirstWrong query i
 unfolding sequenceOf

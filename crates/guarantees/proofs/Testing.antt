@@ -8,7 +8,7 @@ use native.Mathlib.Omega.{arith}
 use lib.ListN.{length, take, drop, length-drop}
 use lib.Seq.{ext-getD, length-take-le, getD-take, getD-drop}
 use Rattle.lists.specs.Table.{at}
-use Rattle.lists.proofs.Table.{length-tabulate, at-tabulate, at-past, is-tabulate}
+use Rattle.lists.proofs.Table.{length-tabulate, at-past, is-tabulate}
 use Rattle.lists.proofs.Search.{lt-or-le}
 use Rattle.cells.specs.Cell.{cellAt, cellsFrom, bytesOf}
 use Rattle.cells.proofs.Laws.{cellAt-bytesOf, bytesOf-cells}
@@ -18,7 +18,7 @@ use Rattle.sequence.specs.declared.Outcome.{Outcome}
 use Rattle.sequence.specs.declared.Outcome.the-variants.{Done}
 use Rattle.sequence.specs.Limits.{maxTerms, maxCells, aBytes, bBytes}
 use Rattle.sequence.specs.Rules.{sequenceOf, checkOf, IsSound}
-use Rattle.sequence.proofs.Laws.{check-done}
+use Rattle.sequence.proofs.Laws.{check-done, term-cell}
 use Rattle.candidate.specs.declared.Verdict.the-variants.{Yes, No}
 use Rattle.candidate.specs.Rules.{aCells, bCells, flawOf, judgeOf, verifyOf, generateOf, generatedIn}
 use Rattle.candidate.proofs.Testing.{verify-judges, generate-done, yes-gives, gives-yes, no-differs, differs-no}
@@ -41,8 +41,7 @@ module _ (query : List ℕ) (passed : checkOf query ≡ Done) where
 
   -- a term is a cell of the query
   term-at : (i : ℕ) → i < cellAt query 1 → at (sequenceOf query .terms) i ≡ cellAt query (2 + i)
-  unfolding sequenceOf
-  term-at i h = at-tabulate maxTerms (λ i. cellAt query (2 + i)) i (omega (arith, few))
+  term-at i h = term-cell query i (omega (arith, h, few))
 
   terms-at : (i : ℕ) → i < cellAt query 1 → at (termsOf query) i ≡ cellAt query (2 + i)
   terms-at i h = getD-take (cellAt query 1) (sequenceOf query .terms) i 0 h ∙ term-at i h

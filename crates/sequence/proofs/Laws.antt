@@ -4,7 +4,7 @@ use mathlib.Core.Path.{_≡_, refl, sym, ap, _∙_, subst}
 use mathlib.Core.Bool.{Bool, true, false}
 use mathlib.Core.Logic.{_⊎_, inl, inr}
 use mathlib.Core.List.{List}
-use Prim.Native.Nat.{ℕ, zero, _≤_, _<_}
+use Prim.Native.Nat.{ℕ, zero, _+_, _≤_, _<_}
 use native.Mathlib.Nat.{le-refl}
 use native.Mathlib.Omega.{arith}
 use lib.Dec.{ltb, leb, eqb}
@@ -13,7 +13,9 @@ use lib.Arith.{lt-of-le-ne}
 use borrow.Author.Tests.{ltb-true, ltb-false, leb-true, leb-false, eqb-true, lt-ltb, le-ltb, lt-leb, le-leb, eq-eqb, ne-eqb}
 use Rattle.lists.specs.Choice.{pick}
 use Rattle.lists.specs.Table.{at}
+use Rattle.lists.proofs.Table.{at-tabulate}
 use Rattle.lists.proofs.Search.{false-true, lt-or-le, first-passes, first-before, is-first, first-none, none-first, all-at, all-true}
+use Rattle.cells.specs.Cell.{cellAt}
 use Rattle.sequence.specs.declared.Sequence.{Sequence}
 use Rattle.sequence.specs.declared.Refusal.{Refusal}
 use Rattle.sequence.specs.declared.Refusal.the-variants as R
@@ -193,6 +195,11 @@ unfolding pushOf
 push-large s t h k b = rw (is-sound s h, ne-eqb (s .count) maxTerms (λ e. omega arith), le-leb _ _ b)
 
 -- ---- queries
+
+-- a term of a query's sequence is a cell of the query
+pub term-cell : (query : List ℕ) (i : ℕ) → i < maxTerms → at (sequenceOf query .terms) i ≡ cellAt query (2 + i)
+unfolding sequenceOf
+term-cell query i h = at-tabulate maxTerms (λ i. cellAt query (2 + i)) i h
 
 -- a refusal has its number
 pub same-number : {r r' : Refusal} → Refused r ≡ Refused r' → refusal r .number ≡ refusal r' .number
