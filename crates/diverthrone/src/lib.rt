@@ -5,11 +5,28 @@ use sequence::Outcome;
 use sequence::Place;
 use sequence::Refusal;
 ghost use mathlib.Core.Path.{_≡_};
+ghost use Prim.Native.Nat.{_≤_, min};
 ghost use Rattle.sequence.specs.Answers.{refusal};
 ghost use Rattle.sequence.specs.Report.{filled};
 ghost use Rattle.candidate.specs.Rules.{verifyAnswer, generateOf, generateAnswer, generatedIn};
 ghost use Rattle.catalogue.specs.Rules.{recordOf, synthesizeOf, synthesizeAnswer, lookUpOf, lookUpAnswer, servedIn};
-ghost use Rattle.diverthrone.specs.Codes.{codeOf};
+ghost use Rattle.lines.specs.Reading.{foundIn};
+ghost use Rattle.lines.specs.Reply.{readOf, readAnswer, queryIn};
+ghost use Rattle.diverthrone.specs.Codes.{lastPlace, codeOf};
+
+// 2^56 - 1: the last place that fits beside the number of a refusal.
+const LAST_PLACE: u64 = 72057594037927935;
+
+// A place for C. No machine holds a line so long that it is another.
+fn told(i: usize) -> u64
+    ensures { λ n. ⌜ (n ≡ min i lastPlace) × (n ≤ lastPlace) ⌝ }
+{
+    let place = i as u64;
+    if place < LAST_PLACE {
+        return place;
+    }
+    LAST_PLACE
+}
 
 // A refusal by its number, with its place as the value.
 fn refused(r: Refusal) -> u64
@@ -18,7 +35,7 @@ fn refused(r: Refusal) -> u64
     let n = sequence::number(r);
     let p = sequence::place_of(r);
     match p {
-        Place::At(i) => n + 256 * (i as u64),
+        Place::At(i) => n + 256 * told(i),
         Place::Nowhere => n,
     }
 }
@@ -80,6 +97,20 @@ pub extern "C" fn diverthrone_generate(
     ensures { λ r. ⌜ now (out .exit) ≡ generatedIn (generateOf modulus (now (a .entry)) (now (b .entry)) length (now (out .entry))) modulus (now (a .entry)) (now (b .entry)) length (now (out .entry)) ⌝ }
 {
     let o = candidate::generate(modulus, a, b, length, out);
+    match o {
+        Outcome::Done => 0,
+        Outcome::Refused(r) => refused(r),
+    }
+}
+
+// Reads a typed line into a query.
+// Rejected: one that tells the place from 1; one that clears the query's bytes before it refuses.
+#[no_mangle]
+pub extern "C" fn diverthrone_read_line(line: &[u8], query: &mut [u8]) -> u64
+    ensures { λ r. ⌜ r ≡ codeOf (readAnswer (now (line .entry)) (now (query .entry))) ⌝ }
+    ensures { λ r. ⌜ now (query .exit) ≡ filled (readOf (now (line .entry)) (now (query .entry))) (queryIn (foundIn (now (line .entry)))) (now (query .entry)) ⌝ }
+{
+    let o = lines::read_line(line, query);
     match o {
         Outcome::Done => 0,
         Outcome::Refused(r) => refused(r),

@@ -7,3 +7,4 @@ pub mod Numbers
 pub mod Driving
 pub mod Testing
 pub mod Refusals
+pub mod Lines

@@ -4,7 +4,7 @@ use mathlib.Core.Path.{_≡_, refl, sym, ap, _∙_, subst}
 use mathlib.Core.Bool.{Bool, true}
 use mathlib.Core.Logic.{_⊎_, inl, inr}
 use mathlib.Core.List.{List}
-use Prim.Native.Nat.{ℕ, _+_, _*_, _≤_, _<_}
+use Prim.Native.Nat.{ℕ, suc, _+_, _*_, _≤_, _<_, min}
 use native.Mathlib.Omega.{arith}
 use lib.Dec.{leb}
 use lib.ListN.{length}
@@ -30,28 +30,40 @@ use Rattle.candidate.proofs.Testing.{generate-flaw}
 use Rattle.catalogue.specs.declared.LookedUp.the-variants as S
 use Rattle.catalogue.specs.Rules.{recordBytes, records, recordAt, firstMatch, passes, synthesizeOf, lookUpOf}
 use Rattle.catalogue.proofs.Refusals.{synthesize-query, synthesize-refused, LookUpRefused, look-up-query, look-up-refused, look-up-fails, fails-look-up, not-yes, yes-not}
+use Rattle.diverthrone.specs.Codes.{lastPlace}
 use Rattle.guarantees.specs.Calls.{Call, afterAll, taken}
-use Rattle.guarantees.specs.Refusals.{OnlyThree, Readable, WrongAt, FirstWrong, Clean, Placed, PushPlaced, EveryPlace, OneOfThree, Flawed, Runs, MeetsAt, testAt, EveryFlaw}
+use Rattle.guarantees.specs.Refusals.{PlacesCarried, Readable, WrongAt, FirstWrong, Clean, Placed, PushPlaced, EveryPlace, OneOfThree, Flawed, Runs, MeetsAt, testAt, EveryFlaw}
 use Rattle.guarantees.proofs.State.{holding, sound-for, state, good}
 
 -- ---- the place that a refusal carries
 
-pub only-three : OnlyThree
-only-three = record { placed = λ i. refl; plain = plain; placed-code = λ i. refl; plain-code = λ n. (let z : n + 256 * 0 ≡ n = omega arith in z) }
+pub places-carried : PlacesCarried
+places-carried =
+    record {
+      term = λ i. refl;
+      form = λ i. refl;
+      range = λ i. refl;
+      plain = plain;
+      placed-code = λ n i h. ap (λ (v : ℕ). suc n + 256 * v) (let z : min i lastPlace ≡ i = omega arith in z);
+      last-code = λ n i h. ap (λ (v : ℕ). suc n + 256 * v) (let z : min i lastPlace ≡ lastPlace = omega arith in z);
+      plain-code = λ n. (let z : n + 256 * 0 ≡ n = omega arith in z);
+    }
   where
-    plain : (r : Refusal) → (refusal r .number ≡ 3 → ⊥) → refusal r ≡ refused (refusal r .number)
-    plain R.Modulus h = refl
-    plain R.Count h = refl
-    plain (R.Term i) h = absurd (h refl)
-    plain R.Padding h = refl
-    plain R.Buffer h = refl
-    plain R.CandidateCoefficient h = refl
-    plain R.Sequence h = refl
-    plain R.Full h = refl
-    plain R.Catalogue h = refl
-    plain R.Record h = refl
-    plain R.CandidateLength h = refl
-    plain R.CandidateLead h = refl
+    plain : (r : Refusal) → (refusal r .number ≡ 3 → ⊥) → (refusal r .number ≡ 27 → ⊥) → (refusal r .number ≡ 28 → ⊥) → refusal r ≡ refused (refusal r .number)
+    plain R.Modulus h k l = refl
+    plain R.Count h k l = refl
+    plain (R.Term i) h k l = absurd (h refl)
+    plain R.Padding h k l = refl
+    plain R.Buffer h k l = refl
+    plain R.CandidateCoefficient h k l = refl
+    plain R.Sequence h k l = refl
+    plain R.Full h k l = refl
+    plain R.Catalogue h k l = refl
+    plain R.Record h k l = refl
+    plain R.CandidateLength h k l = refl
+    plain R.CandidateLead h k l = refl
+    plain (R.LineForm i) h k l = absurd (k refl)
+    plain (R.LineRange i) h k l = absurd (l refl)
 
 -- ---- where a query is wrong
 

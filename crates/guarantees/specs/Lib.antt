@@ -4,3 +4,4 @@ pub mod Cases
 pub mod Numbers
 pub mod Refusals
 pub mod Coded
+pub mod Lines

@@ -3,7 +3,7 @@
 use mathlib.Core.Path.{_≡_}
 use mathlib.Core.Logic.{_⊎_}
 use mathlib.Core.List.{List}
-use Prim.Native.Nat.{ℕ, zero, _+_, _*_, _/_, _%_, _≤_, _<_}
+use Prim.Native.Nat.{ℕ, zero, suc, _+_, _*_, _/_, _%_, _≤_, _<_}
 use lib.ListN.{length, take, drop}
 use Rattle.lists.specs.Table.{at}
 use Rattle.cells.specs.Cell.{cellAt}
@@ -19,16 +19,20 @@ use Rattle.candidate.specs.declared.Verdict.the-variants as W
 use Rattle.candidate.specs.Rules.{aCells, bCells, Fits, IsFine, verifyOf, generateOf}
 use Rattle.catalogue.specs.declared.LookedUp.the-variants as S
 use Rattle.catalogue.specs.Rules.{recordBytes, aPlace, bPlace, lengthCell, records, recordAt, firstMatch, synthesizeOf, lookUpOf}
-use Rattle.diverthrone.specs.Codes.{codeOf}
+use Rattle.diverthrone.specs.Codes.{lastPlace, codeOf}
 use Rattle.guarantees.specs.Calls.{Call, afterAll, taken}
 
 -- ---- the place that a refusal carries
 
--- 3 carries one place, the value that C gets; no other refusal carries any
-pub record OnlyThree : Type 0 where
-  pub placed : (i : ℕ) → refusal (R.Term i) ≡ refusedAt 3 i
-  pub plain : (r : Refusal) → (refusal r .number ≡ 3 → ⊥) → refusal r ≡ refused (refusal r .number)
-  pub placed-code : (i : ℕ) → codeOf (refusedAt 3 i) ≡ 3 + 256 * i
+-- 3, 27 and 28 carry one place, and no other refusal carries any
+pub record PlacesCarried : Type 0 where
+  pub term : (i : ℕ) → refusal (R.Term i) ≡ refusedAt 3 i
+  pub form : (i : ℕ) → refusal (R.LineForm i) ≡ refusedAt 27 i
+  pub range : (i : ℕ) → refusal (R.LineRange i) ≡ refusedAt 28 i
+  pub plain : (r : Refusal) → (refusal r .number ≡ 3 → ⊥) → (refusal r .number ≡ 27 → ⊥) → (refusal r .number ≡ 28 → ⊥) → refusal r ≡ refused (refusal r .number)
+  -- it is the value that C gets, up to the last that fits there; past it that one
+  pub placed-code : (n i : ℕ) → i ≤ lastPlace → codeOf (refusedAt (suc n) i) ≡ suc n + 256 * i
+  pub last-code : (n i : ℕ) → lastPlace ≤ i → codeOf (refusedAt (suc n) i) ≡ suc n + 256 * lastPlace
   pub plain-code : (n : ℕ) → codeOf (refused n) ≡ n
 
 -- ---- where a query is wrong

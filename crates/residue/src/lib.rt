@@ -7,6 +7,7 @@ ghost use Rattle.residue.specs.Valuation.{valuation, cofactor};
 ghost use Rattle.residue.specs.Factors.{divisorsEnd, leastDivisor, leastPower, value};
 ghost use Rattle.residue.specs.Remainders.{joined, two};
 ghost use Rattle.residue.specs.Reduction.{scaleOf};
+ghost use Rattle.residue.specs.Signed.{residueOf};
 
 mod table;
 
@@ -43,6 +44,21 @@ pub fn remainder(x: u64, q: u32) -> u32
     ensures { λ r. ⌜ r ≡ x % q ⌝ }
 {
     (x % (q as u64)) as u32
+}
+
+// The remainder from 0 to m - 1 of a signed number. One below zero is turned about -1, so that no value of the type overflows: -1 gives 0,
+// and the lowest value the highest.
+// Rejected: -1 as 1; the lowest value off by one.
+pub fn of_signed(t: i32, m: u32) -> u32
+    requires { ⌜ 0 < m ⌝ }
+    ensures { λ r. ⌜ r ≡ residueOf m t ⌝ }
+{
+    if t < 0 {
+        let n = -(t + 1);
+        m - 1 - (n as u32) % m
+    } else {
+        (t as u32) % m
+    }
 }
 
 // What Euclid's division finds for a and m: a x + m y = 1 + a m.

@@ -42,6 +42,8 @@ refusal R.Catalogue = refused 23
 refusal R.Record = refused 24
 refusal R.CandidateLength = refused 25
 refusal R.CandidateLead = refused 26
+refusal (R.LineForm i) = refusedAt 27 i
+refusal (R.LineRange i) = refusedAt 28 i
 
 -- a place as a value
 abbrev pub placed : Place → List ℕ

@@ -43,7 +43,8 @@ pub struct Sequence {
     pub terms: [u32; TERMS],
 }
 
-// Why a call did nothing. `Answers.refusal` has the paper's number of each. A term has its place, counted from 0.
+// Why a call did nothing. `Answers.refusal` has the paper's number of each. A wrong term has its place, counted from 0, and so have the
+// byte that breaks a typed line's form and the digit that passes its range.
 pub enum Refusal {
     Modulus,
     Count,
@@ -57,11 +58,13 @@ pub enum Refusal {
     Record,
     CandidateLength,
     CandidateLead,
+    LineForm(usize),
+    LineRange(usize),
 }
 
 // The place that a refusal carries.
 pub enum Place {
-    At(u32),
+    At(usize),
     Nowhere,
 }
 
@@ -299,6 +302,8 @@ pub fn number(r: Refusal) -> u64
         Refusal::Record => 24,
         Refusal::CandidateLength => 25,
         Refusal::CandidateLead => 26,
+        Refusal::LineForm(_) => 27,
+        Refusal::LineRange(_) => 28,
     }
 }
 
@@ -307,7 +312,9 @@ pub fn place_of(r: Refusal) -> Place
     ensures { λ p. ⌜ placed p ≡ refusal r .values ⌝ }
 {
     match r {
-        Refusal::Term(i) => Place::At(i),
+        Refusal::Term(i) => Place::At(i as usize),
+        Refusal::LineForm(i) => Place::At(i),
+        Refusal::LineRange(i) => Place::At(i),
         _ => Place::Nowhere,
     }
 }

@@ -14,8 +14,8 @@ place-of-requires c κs = search needs
 enum-known-p : tie.Need-enum-known-p
 enum-known-p c = search needs
 
-cast-result : tie.Need-cast-result
-cast-result c = search needs
+told-requires : tie.Need-told-requires
+told-requires c κs = search needs
 
 mul-result : tie.Need-mul-result
 mul-result c = search needs
@@ -28,9 +28,9 @@ enum-told c = search needs
 
 returns : tie.Need-returns
 returns c =
-    let p = c .before .before .before in
+    let p = c .before .before .before .before in
     let n = p .before in
-    placed-code (n .before .args .r) (n .number .ensures .0) (p .place-of .ensures) (c .before .p .given .1)
+    placed-code (n .before .args .r) (n .number .ensures .0) (p .place-of .ensures) (c .before .before .p .given .1) (c .told .ensures .0)
 
 returns-2 : tie.Need-returns-2
 returns-2 c =
@@ -45,7 +45,7 @@ refused-spec =
     number-requires
     place-of-requires
     enum-known-p
-    cast-result
+    told-requires
     mul-result
     add-result
     enum-told

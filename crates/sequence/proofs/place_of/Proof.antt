@@ -1,4 +1,4 @@
--- `sequence::place_of` meets its contract: of all refusals only a term's carries a place.
+-- `sequence::place_of` meets its contract: of all refusals a wrong term's and those of a typed line carry a place.
 -- Assumes nothing.
 use mathlib.Core.Path.{_≡_, refl, sym, ap}
 use mathlib.Core.List.{List, [], _∷_}
@@ -16,13 +16,28 @@ use Rattle.sequence.proofs.place_of.Tie as tie
 enum-known-r : tie.Need-enum-known-r
 enum-known-r c = search needs
 
+cast-t6 : tie.Need-cast-t6
+cast-t6 c = search needs
+
+enum-known-r-2 : tie.Need-enum-known-r-2
+enum-known-r-2 c = search needs
+
+enum-known-r-3 : tie.Need-enum-known-r-3
+enum-known-r-3 c = search needs
+
 returns : tie.Need-returns
 returns c = ap (λ (x : Refusal). refusal x .values) (sym (c .before .r .given .1))
 
 returns-2 : tie.Need-returns-2
-returns-2 c = go (c .before .args .r) (c .match .keys2)
+returns-2 c = ap (λ (x : Refusal). refusal x .values) (sym (c .before .r2 .given .1))
+
+returns-3 : tie.Need-returns-3
+returns-3 c = ap (λ (x : Refusal). refusal x .values) (sym (c .before .r3 .given .1))
+
+returns-4 : tie.Need-returns-4
+returns-4 c = go (c .before .args .r) (c .match .keys4)
   where
-    -- all but that of a term, which is 2
+    -- all but that of a term, which is 2, and those of a line, 12 and 13
     tags : List ℕ
     tags = 0 ∷ 1 ∷ 3 ∷ 4 ∷ 5 ∷ 6 ∷ 7 ∷ 8 ∷ 9 ∷ 10 ∷ 11 ∷ []
 
@@ -39,6 +54,18 @@ returns-2 c = go (c .before .args .r) (c .match .keys2)
     go R.Record k = refl
     go R.CandidateLength k = refl
     go R.CandidateLead k = refl
+    go (R.LineForm i) k = absurd (miss tags 12 tt k)
+    go (R.LineRange i) k = absurd (miss tags 13 tt k)
 
 pub place-of-spec : {M : Type 1} → statement M
-place-of-spec = tie.close (tie.spec enum-known-r returns returns-2)
+place-of-spec =
+    tie.close
+    (tie.spec
+    enum-known-r
+    cast-t6
+    enum-known-r-2
+    enum-known-r-3
+    returns
+    returns-2
+    returns-3
+    returns-4)

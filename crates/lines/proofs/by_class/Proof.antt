@@ -1,0 +1,135 @@
+-- `lines::by_class` meets its contract: the row of the state that the reading is in.
+-- Assumes nothing.
+use Rattle.lines.proofs.Signs.{in-row}
+use borrow.Author.Needs.{needs}
+use Rattle.lines.proofs.by_class.Statement.{statement}
+use Rattle.lines.proofs.by_class.Tie as tie
+
+enum-told : tie.Need-enum-told
+enum-told c = search needs
+
+enum-told-2 : tie.Need-enum-told-2
+enum-told-2 c = search needs
+
+enum-told-3 : tie.Need-enum-told-3
+enum-told-3 c = search needs
+
+enum-told-4 : tie.Need-enum-told-4
+enum-told-4 c = search needs
+
+enum-told-5 : tie.Need-enum-told-5
+enum-told-5 c = search needs
+
+goes-requires : tie.Need-goes-requires
+goes-requires c κs = search needs
+
+enum-told-6 : tie.Need-enum-told-6
+enum-told-6 c = search needs
+
+goes-requires-2 : tie.Need-goes-requires-2
+goes-requires-2 c κs = search needs
+
+enum-told-7 : tie.Need-enum-told-7
+enum-told-7 c = search needs
+
+goes-requires-3 : tie.Need-goes-requires-3
+goes-requires-3 c κs = search needs
+
+enum-told-8 : tie.Need-enum-told-8
+enum-told-8 c = search needs
+
+goes-requires-4 : tie.Need-goes-requires-4
+goes-requires-4 c κs = search needs
+
+enum-told-9 : tie.Need-enum-told-9
+enum-told-9 c = search needs
+
+goes-requires-5 : tie.Need-goes-requires-5
+goes-requires-5 c κs = search needs
+
+enum-told-10 : tie.Need-enum-told-10
+enum-told-10 c = search needs
+
+goes-requires-6 : tie.Need-goes-requires-6
+goes-requires-6 c κs = search needs
+
+enum-told-11 : tie.Need-enum-told-11
+enum-told-11 c = search needs
+
+goes-requires-7 : tie.Need-goes-requires-7
+goes-requires-7 c κs = search needs
+
+enum-told-12 : tie.Need-enum-told-12
+enum-told-12 c = search needs
+
+returns : tie.Need-returns
+returns c = search needs
+
+returns-2 : tie.Need-returns-2
+returns-2 c = search needs
+
+returns-3 : tie.Need-returns-3
+returns-3 c = search needs
+
+returns-4 : tie.Need-returns-4
+returns-4 c = search needs
+
+returns-5 : tie.Need-returns-5
+returns-5 c = in-row (c .before .before .before .args .k) (c .before .enum-told5 .given .1) (c .goes .ensures)
+
+returns-6 : tie.Need-returns-6
+returns-6 c = in-row (c .before .before .before .args .k) (c .before .enum-told6 .given .1) (c .goes2 .ensures)
+
+returns-7 : tie.Need-returns-7
+returns-7 c = in-row (c .before .before .before .args .k) (c .before .enum-told7 .given .1) (c .goes3 .ensures)
+
+returns-8 : tie.Need-returns-8
+returns-8 c = in-row (c .before .before .before .args .k) (c .before .enum-told8 .given .1) (c .goes4 .ensures)
+
+returns-9 : tie.Need-returns-9
+returns-9 c = in-row (c .before .before .before .args .k) (c .before .enum-told9 .given .1) (c .goes5 .ensures)
+
+returns-10 : tie.Need-returns-10
+returns-10 c = in-row (c .before .before .before .args .k) (c .before .enum-told10 .given .1) (c .goes6 .ensures)
+
+returns-11 : tie.Need-returns-11
+returns-11 c = in-row (c .before .before .before .args .k) (c .before .enum-told11 .given .1) (c .goes7 .ensures)
+
+returns-12 : tie.Need-returns-12
+returns-12 c = search needs
+
+pub by-class-spec : {M : Type 1} → statement M
+by-class-spec =
+    tie.close
+    (tie.spec
+    enum-told
+    enum-told-2
+    enum-told-3
+    enum-told-4
+    enum-told-5
+    goes-requires
+    enum-told-6
+    goes-requires-2
+    enum-told-7
+    goes-requires-3
+    enum-told-8
+    goes-requires-4
+    enum-told-9
+    goes-requires-5
+    enum-told-10
+    goes-requires-6
+    enum-told-11
+    goes-requires-7
+    enum-told-12
+    returns
+    returns-2
+    returns-3
+    returns-4
+    returns-5
+    returns-6
+    returns-7
+    returns-8
+    returns-9
+    returns-10
+    returns-11
+    returns-12)

@@ -1,0 +1,137 @@
+-- `lines::met` meets its contract.
+-- Assumes nothing.
+use Rattle.lines.proofs.Signs.{met-in-row}
+use borrow.Author.Needs.{needs}
+use Rattle.lines.proofs.met.Statement.{statement}
+use Rattle.lines.proofs.met.Tie as tie
+
+enum-told : tie.Need-enum-told
+enum-told c = search needs
+
+meets-requires : tie.Need-meets-requires
+meets-requires c κs = search needs
+
+enum-told-2 : tie.Need-enum-told-2
+enum-told-2 c = search needs
+
+meets-requires-2 : tie.Need-meets-requires-2
+meets-requires-2 c κs = search needs
+
+enum-told-3 : tie.Need-enum-told-3
+enum-told-3 c = search needs
+
+meets-requires-3 : tie.Need-meets-requires-3
+meets-requires-3 c κs = search needs
+
+enum-told-4 : tie.Need-enum-told-4
+enum-told-4 c = search needs
+
+meets-requires-4 : tie.Need-meets-requires-4
+meets-requires-4 c κs = search needs
+
+enum-told-5 : tie.Need-enum-told-5
+enum-told-5 c = search needs
+
+enum-told-6 : tie.Need-enum-told-6
+enum-told-6 c = search needs
+
+meets-requires-5 : tie.Need-meets-requires-5
+meets-requires-5 c κs = search needs
+
+enum-told-7 : tie.Need-enum-told-7
+enum-told-7 c = search needs
+
+enum-told-8 : tie.Need-enum-told-8
+enum-told-8 c = search needs
+
+enum-told-9 : tie.Need-enum-told-9
+enum-told-9 c = search needs
+
+enum-told-10 : tie.Need-enum-told-10
+enum-told-10 c = search needs
+
+enum-told-11 : tie.Need-enum-told-11
+enum-told-11 c = search needs
+
+enum-told-12 : tie.Need-enum-told-12
+enum-told-12 c = search needs
+
+returns : tie.Need-returns
+returns c =
+    let a = c .before .before .before .args in
+    met-in-row (a .b) (a .q) (c .before .enum-told .given .1) (c .meets .ensures)
+
+returns-2 : tie.Need-returns-2
+returns-2 c =
+    let a = c .before .before .before .args in
+    met-in-row (a .b) (a .q) (c .before .enum-told2 .given .1) (c .meets2 .ensures)
+
+returns-3 : tie.Need-returns-3
+returns-3 c =
+    let a = c .before .before .before .args in
+    met-in-row (a .b) (a .q) (c .before .enum-told3 .given .1) (c .meets3 .ensures)
+
+returns-4 : tie.Need-returns-4
+returns-4 c =
+    let a = c .before .before .before .args in
+    met-in-row (a .b) (a .q) (c .before .enum-told4 .given .1) (c .meets4 .ensures)
+
+returns-5 : tie.Need-returns-5
+returns-5 c = search needs
+
+returns-6 : tie.Need-returns-6
+returns-6 c =
+    let a = c .before .before .before .args in
+    met-in-row (a .b) (a .q) (c .before .enum-told6 .given .1) (c .meets5 .ensures)
+
+returns-7 : tie.Need-returns-7
+returns-7 c = search needs
+
+returns-8 : tie.Need-returns-8
+returns-8 c = search needs
+
+returns-9 : tie.Need-returns-9
+returns-9 c = search needs
+
+returns-10 : tie.Need-returns-10
+returns-10 c = search needs
+
+returns-11 : tie.Need-returns-11
+returns-11 c = search needs
+
+returns-12 : tie.Need-returns-12
+returns-12 c = search needs
+
+pub met-spec : {M : Type 1} → statement M
+met-spec =
+    tie.close
+    (tie.spec
+    enum-told
+    meets-requires
+    enum-told-2
+    meets-requires-2
+    enum-told-3
+    meets-requires-3
+    enum-told-4
+    meets-requires-4
+    enum-told-5
+    enum-told-6
+    meets-requires-5
+    enum-told-7
+    enum-told-8
+    enum-told-9
+    enum-told-10
+    enum-told-11
+    enum-told-12
+    returns
+    returns-2
+    returns-3
+    returns-4
+    returns-5
+    returns-6
+    returns-7
+    returns-8
+    returns-9
+    returns-10
+    returns-11
+    returns-12)

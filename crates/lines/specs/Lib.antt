@@ -1,0 +1,4 @@
+pub mod Form
+pub mod Reading
+pub mod Reply
+pub mod Scan
