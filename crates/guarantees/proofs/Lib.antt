@@ -8,3 +8,4 @@ pub mod Driving
 pub mod Testing
 pub mod Refusals
 pub mod Lines
+pub mod Typed

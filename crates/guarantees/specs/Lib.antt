@@ -5,3 +5,4 @@ pub mod Numbers
 pub mod Refusals
 pub mod Coded
 pub mod Lines
+pub mod Typed

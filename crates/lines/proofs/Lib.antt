@@ -6,4 +6,3 @@ pub mod Signs
 pub mod Scanning
 pub mod Writing
 pub mod Answers
-pub mod Cases

@@ -6,6 +6,7 @@ use mathlib.Core.Logic.{_⊎_, inl, inr}
 use mathlib.Core.List.{List, [], _∷_, _++_}
 use Prim.Native.Nat.{ℕ, _+_, _≤_, _<_}
 use native.Mathlib.Decide.{ℕ-discrete}
+use native.Mathlib.Nat.{le-antisymm}
 use native.Mathlib.Numerals.{add-one}
 use native.Mathlib.Omega.{arith}
 use lib.IntN.{ℤ, pos}
@@ -142,8 +143,8 @@ module _ {line : List ℕ} {c : Cursor} {n i : ℕ} {xs : List ℤ} (s : Scannin
     unfolding readFrom
     last = s .found ∙ ap (λ (v : List ℕ). readFrom c (s .terms) v i) (drop-of-length-le line h)
 
-    pub scanning-cut : mayEnd (c .state) ≡ false → foundIn line ≡ broken i
-    scanning-cut e = last ∙ passed _ _ e
+    pub scanning-cut : mayEnd (c .state) ≡ false → foundIn line ≡ broken (length line)
+    scanning-cut e = last ∙ passed _ _ e ∙ ap broken (le-antisymm (s .within) h)
 
     pub scanning-end : mayEnd (c .state) ≡ true → foundIn line ≡ read (c .modulus) (ended c (s .terms))
     scanning-end e = last ∙ picked _ _ e

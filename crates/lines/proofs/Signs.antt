@@ -4,7 +4,7 @@ use mathlib.Core.Path.{_≡_, refl, sym, ap, _∙_, subst}
 use mathlib.Core.Bool.{Bool, true, false}
 use Prim.Native.Nat.{ℕ, zero, suc, _+_, _^_, _≤_, _<_}
 use native.Mathlib.Omega.{arith}
-use lib.IntN.{ℤ, pos, negsuc, _-ℤ_}
+use lib.IntN.{ℤ, pos, negsuc, negℤ, _-ℤ_, +ℤ-idl}
 use mir.Syntax.{w32}
 use mir.Val.{SFits, toZ, ofZ}
 use mir.Facts.{toZ-ofZ, toZ-pos}
@@ -18,31 +18,32 @@ pub limit-most : (s : Bool) → limit s ≤ 2147483648
 limit-most true = omega arith
 limit-most false = omega arith
 
-from-minus-one : (n : ℕ) → negsuc 0 -ℤ pos n ≡ negsuc n
-from-minus-one zero = refl
-from-minus-one (suc n) =
+pub pos-is : (n : ℕ) → n < 2147483648 → toZ w32 n ≡ pos n
+pos-is n h = toZ-pos w32 (let k : n < 2 ^ 31 = omega arith in k)
+
+minus-one-less : (n : ℕ) → negsuc 0 -ℤ pos n ≡ negsuc n
+minus-one-less zero = refl
+minus-one-less (suc n) =
     let e : 0 + n ≡ n = omega arith in
     ap (λ (k : ℕ). negsuc (suc k)) e
 
--- -1 less n, as the machine finds it
-pub record Less (n : ℕ) : Type 0 where
-  pub fits : SFits w32 (negsuc 0 -ℤ toZ w32 n)
-  pub is : toZ w32 (ofZ w32 (negsuc 0 -ℤ toZ w32 n)) ≡ negsuc n
+neg-fits : (n : ℕ) → n < 2147483648 → SFits w32 (negℤ (pos n))
+neg-fits zero h = record { sfits = omega arith }
+neg-fits (suc n) h = record { sfits = omega arith }
 
-pub less : (n : ℕ) → n < 2147483648 → Less n
-less n h = record { fits = f; is = toZ-ofZ f ∙ e }
-  where
-    e : negsuc 0 -ℤ toZ w32 n ≡ negsuc n
-    e = ap (λ (z : ℤ). negsuc 0 -ℤ z) (toZ-pos w32 (let k : n < 2 ^ 31 = omega arith in k)) ∙ from-minus-one n
+-- 0 and -1 less n, as the machine finds them, fit
+pub from-zero : (n : ℕ) → n < 2147483648 → SFits w32 (pos 0 -ℤ toZ w32 n)
+from-zero n h = subst (SFits w32) (sym (ap (λ (z : ℤ). pos 0 -ℤ z) (pos-is n h) ∙ +ℤ-idl (negℤ (pos n)))) (neg-fits n h)
 
-    f : SFits w32 (negsuc 0 -ℤ toZ w32 n)
-    f = subst (SFits w32) (sym e) (record { sfits = omega arith })
+pub from-minus-one : (n : ℕ) → n < 2147483648 → SFits w32 (negsuc 0 -ℤ toZ w32 n)
+from-minus-one n h = subst (SFits w32) (sym (ap (λ (z : ℤ). negsuc 0 -ℤ z) (pos-is n h) ∙ minus-one-less n)) (record { sfits = h })
+
+-- -1 less n is -(n + 1)
+pub less-is : (n : ℕ) → n < 2147483648 → toZ w32 (ofZ w32 (negsuc 0 -ℤ toZ w32 n)) ≡ negsuc n
+less-is n h = toZ-ofZ (from-minus-one n h) ∙ ap (λ (z : ℤ). negsuc 0 -ℤ z) (pos-is n h) ∙ minus-one-less n
 
 pub pos-fits : (n : ℕ) → n < 2147483648 → SFits w32 (pos n)
 pos-fits n h = record { sfits = omega arith }
-
-pub pos-is : (n : ℕ) → n < 2147483648 → toZ w32 n ≡ pos n
-pos-is n h = toZ-pos w32 (let k : n < 2 ^ 31 = omega arith in k)
 
 -- a term within its limit fits 32 bits
 pub signed-fits : (s : Bool) (n : ℕ) → n ≤ limit s → SFits w32 (signed s n)

@@ -360,7 +360,7 @@ fn scan(line: &[u8], terms: &mut [i32; TERMS]) -> Scanned
         let count = end_term(c, n, terms);
         return Scanned::Read(c.modulus, count);
     }
-    Scanned::Broken(i)
+    Scanned::Broken(line.len())
 }
 
 // Writes the modulus, the count and the terms' remainders.
