@@ -1,16 +1,17 @@
-//! The calls of document 01, and of requests A1 and A2 in 02, on plain values and
+//! The calls of document 01, and of requests A1 to A3 in 02, on plain values and
 //! byte buffers.
 //!
 //! "Order where several apply: 5, 21, 1, 2, 22, 3, 4, 6, 23, 24. Each call gives
 //! only those that concern what it is handed." 25 comes right before 6, 26 right
-//! after it, and only the 5 of a sheet comes after 21. A refused call leaves every
-//! lent byte as it was.
+//! after it, and only the 5 of a sheet comes after 21. 27 and 28 come after 5 and before
+//! 1, the one with the lower place. A refused call leaves every lent byte as it was.
 
 use crate::join::{
     histories, profile as profile_of, register as register_of, register_after, sheet as sheet_of,
     sheet_size, Register,
 };
 use crate::limits::*;
+use crate::lines;
 use crate::refusals::Refusal;
 use crate::steps::{product_coefficient, StepRecord};
 
@@ -233,6 +234,21 @@ pub fn outputs(m: u64, claim: &Register, count: usize) -> Vec<u64> {
         run.push((claim.b[j] + m - sum % m) % m);
     }
     run
+}
+
+// ---- typed lines ----
+
+/// Reads a typed line into a slip: 5 (the slip), 27 or 28, 1, 2. A term "stands for its
+/// remainder from 0 to m-1". The line is read to its end before 1 and 2 are looked at.
+pub fn read_line(line: &[u8], slip: &mut [u8]) -> Result<(), Refusal> {
+    demand(slip.len() == SLIP_BYTES, Refusal::Buffer)?;
+    let lines::Numbers { modulus, terms } = lines::read(line)?;
+    let m = u64::try_from(modulus).expect("a modulus has no sign");
+    demand(legal_modulus(m), Refusal::Modulus)?;
+    demand(terms.len() <= TERMS_LIMIT, Refusal::TooMany)?;
+    let remainders: Vec<u64> = terms.iter().map(|term| term.rem_euclid(modulus) as u64).collect();
+    slip.copy_from_slice(&slip_of(m, &remainders));
+    Ok(())
 }
 
 // ---- slips, records, shelf ----

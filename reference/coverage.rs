@@ -1,21 +1,26 @@
-//! What the random slips and scripts meet: every refusal of every call, the places, and
-//! the kinds of bad claims. The seeds are those that tests/expectations.sh uses.
+//! What the random slips, scripts and typed lines meet: every refusal of every call, the
+//! places, the kinds of bad claims and of lines. The seeds are those that
+//! tests/expectations.sh uses.
 
-use crate::calls::{cells, check_slip, verify, Verdict};
+use crate::ask::{self, ask, LINE_LIMIT};
+use crate::calls::{cells, check_slip, read_line, verify, Verdict};
+use crate::cases::{told, Told};
 use crate::checks::Group;
 use crate::faults::{faults, offending, Fault};
 use crate::limits::*;
+use crate::linecalls::linecalls;
 use crate::listing::listing;
 use crate::scenarios;
 use crate::script::{replay, Call, Operation};
 use crate::sequences;
+use crate::typed::typed;
 use std::collections::{BTreeMap, BTreeSet};
 
 /// How often each thing must be met at least.
 const LEAST: usize = 3;
 
 /// The calls and the refusals that each has.
-const REFUSALS: [(&str, &[u32]); 10] = [
+const REFUSALS: [(&str, &[u32]); 12] = [
     ("open", &[1]),
     ("push", &[21, 22, 3]),
     ("register", &[5, 21]),
@@ -25,8 +30,10 @@ const REFUSALS: [(&str, &[u32]); 10] = [
     ("synthesize", &[5, 1, 2, 3, 4]),
     ("look_up", &[5, 1, 2, 3, 4, 23, 24]),
     ("trace", &[5, 21]),
+    ("read_line", &[5, 27, 28, 1, 2]),
     // A piece that is too short is put after the slips.
     ("listing", &[1, 2, 3, 4]),
+    ("ask", &[5, 27, 28, 1, 2]),
 ];
 
 /// How often each thing was met, by name.
@@ -36,29 +43,34 @@ fn count<T: Ord>(tally: &mut Tally<T>, thing: T) {
     *tally.entry(thing).or_insert(0) += 1;
 }
 
-/// The scripts and slips of the seeds, each with the text that they lead to.
+/// The scripts, slips and lines of the seeds, each with the text that they lead to.
 pub fn met(group: &mut Group) {
     let script = [
         scenarios::calls(11, 500),
         scenarios::candidates(12, 1000),
         scenarios::catalogues(14, 300),
+        linecalls(15, 2000),
     ]
     .concat();
     let slips = sequences::slips(21, 2400);
+    let input = typed(41, 1600);
     let (text, whole) = replay(&script);
     group.check(whole, || String::from("the script is whole"));
     let listed: String = listing(&slips).lines().map(|line| format!("listing {line}\n")).collect();
-    refusals_met(group, &(text + &listed));
+    let asked: String = ask(&input).lines().map(|line| format!("ask {line}\n")).collect();
+    refusals_met(group, &(text + &listed + &asked));
     slips_met(group, &slips);
     claims_met(group, &script);
+    lines_met(group, &script, &input);
+    longest_met(group, &input);
 }
 
 fn often(group: &mut Group, times: usize, words: impl Fn() -> String) {
     group.check(times >= LEAST, || format!("{}: {times} times", words()));
 }
 
-/// Each call meets all its refusals and no other. Each 3 and nothing else has a place, and
-/// every call that gives it has the least, the largest and others.
+/// Each call meets all its refusals and no other. Each 3, 27 and 28 and nothing else has a
+/// place, and every call that gives 3 has the least, the largest and others.
 fn refusals_met(group: &mut Group, text: &str) {
     let mut tally = Tally::new();
     let mut places = Tally::new();
@@ -70,7 +82,8 @@ fn refusals_met(group: &mut Group, text: &str) {
             ["at", place, ..] => Some(*place),
             _ => None,
         };
-        group.check(place.is_some() == (*number == "3"), || format!("the place in: {line}"));
+        let placed = ["3", "27", "28"].contains(number);
+        group.check(place.is_some() == placed, || format!("the place in: {line}"));
         if let Some(place) = place.and_then(|place| place.parse::<usize>().ok()) {
             count(&mut places, (*call, place));
         }
@@ -253,4 +266,186 @@ fn claim_of(call: &Call) -> Option<Looked> {
         }
         _ => None,
     }
+}
+
+// ---- typed lines ----
+
+/// What the lines must be, in the script and as they are typed.
+const KINDS_OF_LINES: [&str; 39] = [
+    "27, too short",
+    "27, the fixed text",
+    "27, the modulus",
+    "27, after the colon",
+    "27, a digit",
+    "27, a comma",
+    "27, a minus",
+    "27, a blank",
+    "27, a colon",
+    "27, a carriage return",
+    "27, another byte",
+    "27, then a number out of its range",
+    "27, in a line above 1,000 bytes",
+    "27, after the 128th term",
+    "27, with a modulus that is not legal",
+    "28, the modulus",
+    "28, a term after a minus",
+    "28, a term without a minus",
+    "28, the tenth digit",
+    "28, the eleventh digit",
+    "28, after leading zeros",
+    "28, then another byte",
+    "28, in a line above 1,000 bytes",
+    "28, after the 128th term",
+    "1, below 2",
+    "1, above 4,095",
+    "1, with more than 128 terms",
+    "2, 129 terms",
+    "2, more terms",
+    "read, no byte after the colon",
+    "read, only blanks",
+    "read, 127 terms",
+    "read, 128 terms",
+    "read, -2147483648",
+    "read, 2147483647",
+    "read, -0",
+    "read, -1",
+    "read, leading zeros",
+    "read, above 1,000 bytes",
+];
+
+/// Each kind among the readings of the script, and among the lines that are asked.
+fn lines_met(group: &mut Group, script: &[u8], input: &[u8]) {
+    let mut tally = Tally::new();
+    let mut rest = script;
+    while let Ok((call, size)) = Call::parse(rest) {
+        rest = &rest[size..];
+        if call.operation == Operation::ReadLine && usize::from(call.lengths[1]) == SLIP_BYTES {
+            count_kinds(&mut tally, "read_line", &call.payload);
+        }
+    }
+    for line in ask::lines(input).filter(|line| line.len() <= LINE_LIMIT) {
+        count_kinds(&mut tally, "ask", line);
+    }
+    for (call, kind) in
+        ["read_line", "ask"].iter().flat_map(|call| KINDS_OF_LINES.map(|k| (call, k)))
+    {
+        let times = tally.get(&(*call, kind)).copied().unwrap_or(0);
+        often(group, times, || format!("{call}, lines: {kind}"));
+    }
+    group.check(tally.len() == 2 * KINDS_OF_LINES.len(), || format!("kinds of lines: {tally:?}"));
+}
+
+fn count_kinds(tally: &mut Tally<(&'static str, &'static str)>, call: &'static str, line: &[u8]) {
+    let refused = told(read_line(line, &mut [0; SLIP_BYTES])).err();
+    for (kind, applies) in kinds_of_line(line, refused) {
+        if applies {
+            count(tally, (call, kind));
+        }
+    }
+}
+
+/// Lines next to the limit of what is read, with each end mark and with carriage returns
+/// that are none; a last line without an end mark.
+fn longest_met(group: &mut Group, input: &[u8]) {
+    let pieces: Vec<&[u8]> = input.split(|&byte| byte == b'\n').collect();
+    let ends: [(usize, &[u8]); 5] =
+        [(65_536, b""), (65_536, b"\r"), (65_537, b""), (65_535, b"\r\r"), (65_536, b"\r\r")];
+    for (size, end) in ends {
+        let has = |piece: &&[u8]| {
+            piece.strip_suffix(end).is_some_and(|line| line.len() == size && !line.ends_with(b"\r"))
+        };
+        let words = || format!("a line of {size} bytes, then {}", end.escape_ascii());
+        group.check(pieces.iter().any(has), words);
+    }
+    let far = pieces.iter().any(|piece| piece.len() > 140_000);
+    group.check(far, || String::from("a line far above the limit"));
+    let within = |piece: &&[u8]| piece.len() > 65_538 && piece[65_536] == b'\r';
+    group.check(pieces.iter().any(within), || String::from("a line that goes on after one"));
+    group.check(!input.ends_with(b"\n"), || String::from("a last line without an end mark"));
+}
+
+type Kinds = Vec<(&'static str, bool)>;
+
+fn kinds_of_line(line: &[u8], refused: Option<Told>) -> Kinds {
+    let text = String::from_utf8_lossy(line);
+    match refused {
+        Some((27, Some(place))) => kinds_of_form(line, place),
+        Some((28, Some(place))) => kinds_of_range(line, place),
+        Some((1, _)) => vec![
+            ("1, below 2", modulus_of(line) < 2),
+            ("1, above 4,095", modulus_of(line) > 4095),
+            ("1, with more than 128 terms", commas(line) >= 128),
+        ],
+        Some(_) => {
+            vec![("2, 129 terms", commas(line) == 128), ("2, more terms", commas(line) > 128)]
+        }
+        None => vec![
+            ("read, no byte after the colon", text.ends_with(':')),
+            ("read, only blanks", text.ends_with(": ") || text.ends_with(":  ")),
+            ("read, 127 terms", commas(line) == 126),
+            ("read, 128 terms", commas(line) == 127),
+            ("read, -2147483648", text.contains("-2147483648")),
+            ("read, 2147483647", text.contains(",2147483647")),
+            ("read, -0", text.contains("-0,")),
+            ("read, -1", text.contains("-1,")),
+            ("read, leading zeros", text.starts_with("mod 0") && text.contains(",00")),
+            ("read, above 1,000 bytes", line.len() > 1000),
+        ],
+    }
+}
+
+fn commas(text: &[u8]) -> usize {
+    text.iter().filter(|&&byte| byte == b',').count()
+}
+
+/// The number between the fixed text and the colon.
+fn modulus_of(line: &[u8]) -> u64 {
+    let text = String::from_utf8_lossy(line);
+    let digits = text.strip_prefix("mod ").and_then(|rest| rest.split(':').next());
+    digits.and_then(|digits| digits.parse().ok()).unwrap_or(0)
+}
+
+/// What the byte at the place is, and what is before and after it.
+fn kinds_of_form(line: &[u8], place: usize) -> Kinds {
+    let (before, after) = line.split_at(place);
+    let rest = String::from_utf8_lossy(after);
+    let colon = before.contains(&b':');
+    let is = |allowed: &[u8]| after.first().is_some_and(|byte| allowed.contains(byte));
+    let known = after.is_empty() || is(b"0123456789,- :\r");
+    vec![
+        ("27, too short", after.is_empty()),
+        ("27, the fixed text", place < 4 && !after.is_empty()),
+        ("27, the modulus", place >= 4 && !colon && !after.is_empty()),
+        ("27, after the colon", colon && !after.is_empty()),
+        ("27, a digit", is(b"0123456789")),
+        ("27, a comma", is(b",")),
+        ("27, a minus", is(b"-")),
+        ("27, a blank", is(b" ")),
+        ("27, a colon", is(b":")),
+        ("27, a carriage return", is(b"\r")),
+        ("27, another byte", !known),
+        ("27, then a number out of its range", rest.contains(",2147483648")),
+        ("27, in a line above 1,000 bytes", line.len() > 1000),
+        ("27, after the 128th term", commas(before) >= 128),
+        ("27, with a modulus that is not legal", colon && !(2..=4095).contains(&modulus_of(line))),
+    ]
+}
+
+/// Which number has the digit at the place, and what is after it.
+fn kinds_of_range(line: &[u8], place: usize) -> Kinds {
+    let other = |byte: &u8| !b"0123456789,- :".contains(byte);
+    let digits = line[..=place].rsplit(|byte| !byte.is_ascii_digit()).next().unwrap_or(&[]);
+    let before = &line[..=place - digits.len()];
+    let zeros = digits.iter().take_while(|&&digit| digit == b'0').count();
+    vec![
+        ("28, the modulus", before.ends_with(b"mod ")),
+        ("28, a term after a minus", before.ends_with(b"-")),
+        ("28, a term without a minus", before.contains(&b':') && !before.ends_with(b"-")),
+        ("28, the tenth digit", digits.len() - zeros == 10),
+        ("28, the eleventh digit", digits.len() - zeros == 11),
+        ("28, after leading zeros", zeros > 0),
+        ("28, then another byte", line[place..].iter().any(other)),
+        ("28, in a line above 1,000 bytes", line.len() > 1000),
+        ("28, after the 128th term", commas(before) >= 128),
+    ]
 }

@@ -9,15 +9,28 @@ pub const HEADER: &str = "modulus count order register";
 
 /// "Writes a header, then a line for each."
 pub fn listing(slips: &[u8]) -> String {
-    for_each_slip(slips, |sequence| line(sequence, &register(sequence.modulus, &sequence.terms)))
+    answers(queries(slips), answer)
 }
 
-/// The header, then for each slip what `entry` gives for it, or its refusal. Each line
+/// The line of a sequence.
+pub fn answer(sequence: &Sequence) -> String {
+    line(sequence, &register(sequence.modulus, &sequence.terms))
+}
+
+/// What each slip asks for, or why it asks for nothing.
+pub fn queries(slips: &[u8]) -> impl Iterator<Item = Result<Sequence, Refusal>> + '_ {
+    slips.chunks(SLIP_BYTES).map(checked)
+}
+
+/// The header, then for each query what `entry` gives for it, or its refusal. Each line
 /// ends in a line feed; the last one of an entry gets it here.
-pub fn for_each_slip(slips: &[u8], entry: impl Fn(&Sequence) -> String) -> String {
+pub fn answers(
+    queries: impl Iterator<Item = Result<Sequence, Refusal>>,
+    entry: impl Fn(&Sequence) -> String,
+) -> String {
     let mut text = format!("{HEADER}\n");
-    for piece in slips.chunks(SLIP_BYTES) {
-        match checked(piece) {
+    for query in queries {
+        match query {
             Ok(sequence) => text.push_str(&entry(&sequence)),
             Err(refusal) => text.push_str(&refusal.to_string()),
         }

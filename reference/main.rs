@@ -2,6 +2,7 @@
 //! README.md tells the commands and formats.
 
 mod apply;
+mod ask;
 mod calls;
 mod cases;
 mod checks;
@@ -11,6 +12,10 @@ mod faults;
 mod join;
 mod limits;
 mod linear;
+mod linecalls;
+mod linecases;
+mod linechecks;
+mod lines;
 mod listing;
 mod orders;
 mod random;
@@ -22,6 +27,7 @@ mod selftest;
 mod sequences;
 mod sheets;
 mod steps;
+mod typed;
 mod working;
 
 use std::io::{Read, Write};
@@ -30,11 +36,15 @@ use std::process::ExitCode;
 const USAGE: &str = "usage: reference COMMAND
   listing                 slips on standard input to the listing
   working                 slips on standard input to the listing with each sheet
+  ask                     typed lines on standard input to the listing
+  working lines           typed lines on standard input to the listing with each sheet
   replay                  a script on standard input to the expected text
   slips SEED COUNT        random slips
   calls SEED COUNT        a script of random lists of calls on a reading
   candidates SEED COUNT   a script of random testings and runnings
   catalogues SEED COUNT   a script of random servings and makings
+  typed SEED COUNT        random typed lines
+  linecalls SEED COUNT    a script of readings of typed lines
   selftest                checks this program against itself and the papers
 ";
 
@@ -44,6 +54,10 @@ fn main() -> ExitCode {
     match words[..] {
         ["listing"] => with_input(|input| (listing::listing(input).into_bytes(), true)),
         ["working"] => with_input(|input| (working::working(input).into_bytes(), true)),
+        ["ask"] => with_input(|input| (ask::ask(input).into_bytes(), true)),
+        ["working", "lines"] => {
+            with_input(|input| (working::working_lines(input).into_bytes(), true))
+        }
         ["replay"] => with_input(|input| {
             let (text, whole) = script::replay(input);
             (text.into_bytes(), whole)
@@ -52,6 +66,8 @@ fn main() -> ExitCode {
         ["calls", seed, count] => generated(seed, count, scenarios::calls),
         ["candidates", seed, count] => generated(seed, count, scenarios::candidates),
         ["catalogues", seed, count] => generated(seed, count, scenarios::catalogues),
+        ["typed", seed, count] => generated(seed, count, typed::typed),
+        ["linecalls", seed, count] => generated(seed, count, linecalls::linecalls),
         ["selftest"] => ExitCode::from(u8::from(!selftest::selftest())),
         _ => usage(),
     }

@@ -26,6 +26,7 @@ pub fn orders(group: &mut Group) {
     orders_of_taking(group);
     orders_of_reports(group);
     orders_of_listing(group);
+    orders_of_lines(group);
 }
 
 /// Each kind of fault for itself, with its number and place.
@@ -216,10 +217,40 @@ fn orders_of_listing(group: &mut Group) {
     }
 }
 
+/// 02, A3: "The reading runs left to right and both come after 5 and before 1": 27 before a
+/// later 28 and after an earlier one.
+fn orders_of_lines(group: &mut Group) {
+    for breaks_first in [true, false] {
+        let by_place = if breaks_first {
+            [(27, Some(271)), (28, Some(282))]
+        } else {
+            [(28, Some(278)), (27, Some(282))]
+        };
+        let order = [&[bare(5)][..], &by_place, &[bare(1), bare(2)]].concat();
+        every_set(group, "reading a line", &order, |with| {
+            let line = faulty_line(with, breaks_first);
+            let mut slip = vec![7; shortened(SLIP_BYTES, with(5))];
+            let outcome = read_line(line.as_bytes(), &mut slip);
+            kept(outcome, slip.iter().all(|&byte| byte == 7))
+        });
+    }
+}
+
+/// A line with 130 terms or with blanks in their place, then a blank inside a term and a
+/// term out of range, or the other way round. No fault moves another.
+fn faulty_line(with: With, breaks_first: bool) -> String {
+    let modulus = if with(1) { "4096" } else { "0009" };
+    let terms = if with(2) { "1,".repeat(130) } else { " ".repeat(260) };
+    let broken = if with(27) { "1 1" } else { "1,1" };
+    let passing = if with(28) { "2147483648" } else { "2147483647" };
+    let (first, second) = if breaks_first { (broken, passing) } else { (passing, broken) };
+    format!("mod {modulus}:{terms}{first},{second}")
+}
+
 // ---- each kind of fault ----
 
-/// Each refusal has its number in the papers, 3 alone has a place, and the words tell
-/// both.
+/// Each refusal has its number in the papers, 3, 27 and 28 alone have a place, and the
+/// words tell both.
 fn numbers_and_words(group: &mut Group) {
     let all = [
         (Refusal::Modulus, bare(1), "refused 1"),
@@ -236,6 +267,9 @@ fn numbers_and_words(group: &mut Group) {
         (Refusal::Record, bare(24), "refused 24"),
         (Refusal::ClaimLength, bare(25), "refused 25"),
         (Refusal::ClaimStart, bare(26), "refused 26"),
+        (Refusal::LineForm(0), (27, Some(0)), "refused 27 at 0"),
+        (Refusal::LineForm(65535), (27, Some(65535)), "refused 27 at 65535"),
+        (Refusal::LineRange(15), (28, Some(15)), "refused 28 at 15"),
     ];
     for (refusal, expected, words) in all {
         group.check(told::<()>(Err(refusal)) == Err(expected), || format!("{refusal:?}"));

@@ -1,10 +1,10 @@
-//! The refusals of 01 and of 02 as far as A2, with their numbers and the place that
-//! a 3 carries.
+//! The refusals of 01 and of 02 as far as A3, with their numbers and the place that
+//! a 3, a 27 or a 28 carries.
 
 use std::fmt;
 
-/// A call that is refused tells one of these. A term out of range cannot be told
-/// without its place, and nothing else has one.
+/// A call that is refused tells one of these. A term out of range and a typed line that
+/// cannot be read are not told without the place, and nothing else has one.
 #[derive(Clone, Copy, PartialEq, Eq, Debug)]
 pub enum Refusal {
     /// 1: "the modulus is below 2 or above 4,095".
@@ -32,6 +32,13 @@ pub enum Refusal {
     Shelf,
     /// 24: "the record found is a bad claim .. or its test against the slip says no".
     Record,
+    /// 27: "the line breaks its form", with "the place of the first byte that no line
+    /// of this form with the same bytes before it has there, or the line's length if it
+    /// ends too soon".
+    LineForm(usize),
+    /// 28: "a term, or a modulus above 2,147,483,647, is out of that range", with "the
+    /// place of the digit that passes it".
+    LineRange(usize),
 }
 
 impl Refusal {
@@ -50,13 +57,17 @@ impl Refusal {
             Refusal::Record => 24,
             Refusal::ClaimLength => 25,
             Refusal::ClaimStart => 26,
+            Refusal::LineForm(_) => 27,
+            Refusal::LineRange(_) => 28,
         }
     }
 
     /// The place carried along.
     pub fn place(self) -> Option<usize> {
         match self {
-            Refusal::Term(place) => Some(place),
+            Refusal::Term(place) | Refusal::LineForm(place) | Refusal::LineRange(place) => {
+                Some(place)
+            }
             _ => None,
         }
     }

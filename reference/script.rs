@@ -20,9 +20,10 @@ pub enum Operation {
     LookUp = 7,
     Forge = 8,
     Trace = 9,
+    ReadLine = 10,
 }
 
-const OPERATIONS: [(Operation, &str); 10] = [
+const OPERATIONS: [(Operation, &str); 11] = [
     (Operation::Open, "open"),
     (Operation::Push, "push"),
     (Operation::Register, "register"),
@@ -33,6 +34,7 @@ const OPERATIONS: [(Operation, &str); 10] = [
     (Operation::LookUp, "look_up"),
     (Operation::Forge, "forge"),
     (Operation::Trace, "trace"),
+    (Operation::ReadLine, "read_line"),
 ];
 
 /// One call of a script. `number` is the modulus, the term, the l of a test or the
@@ -54,7 +56,7 @@ impl Call {
         match operation {
             Operation::Verify => [true, true, true],
             Operation::Generate | Operation::LookUp => [true, true, false],
-            Operation::Synthesize | Operation::Forge => [true, false, false],
+            Operation::Synthesize | Operation::Forge | Operation::ReadLine => [true, false, false],
             _ => [false, false, false],
         }
     }
@@ -179,7 +181,7 @@ pub fn line(call: &Call, reading: &mut Reading) -> String {
         Operation::Profile => vec![first],
         Operation::Verify => vec![],
         Operation::Generate | Operation::LookUp => vec![third],
-        Operation::Synthesize => vec![second],
+        Operation::Synthesize | Operation::ReadLine => vec![second],
         Operation::Trace => vec![first, second, third],
     };
     let mut line = format!("{} {}", OPERATIONS[call.operation as usize].1, reply);
@@ -222,6 +224,7 @@ fn perform(
             *third = filled;
             outcome.map(|l| format!("length {l}"))
         }
+        Operation::ReadLine => calls::read_line(first, second).map(ok),
     }
 }
 

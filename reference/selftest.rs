@@ -9,6 +9,9 @@ use crate::faults;
 use crate::join::{self, Register};
 use crate::limits::*;
 use crate::linear;
+use crate::linecalls;
+use crate::linecases;
+use crate::linechecks;
 use crate::listing::listing;
 use crate::orders;
 use crate::random::Random;
@@ -19,38 +22,47 @@ use crate::script::replay;
 use crate::sequences;
 use crate::sheets;
 use crate::steps::{self, coefficient, length, Pair};
+use crate::typed;
+
+/// The groups in the order in which they run.
+const GROUPS: [(&str, fn(&mut Group)); 31] = [
+    ("cases 1 to 15", cases::cases),
+    ("tables 1 and 2 of 000", cases::tables),
+    ("sheets and their text by hand", cases::sheets_by_hand),
+    ("registers named in the papers", cases::named_registers),
+    ("refusals, every set of faults of each call", orders::orders),
+    ("refusals, each kind of fault and each place", orders::kinds),
+    ("inverses, prime powers, remainders", arithmetic),
+    ("rows of the steps keep their congruence", rows),
+    ("full history and compact version agree", versions),
+    ("profile and linear algebra, short", linear_short),
+    ("profile and linear algebra, long", linear_long),
+    ("profile and linear algebra, moduli to 65,535", linear_wide),
+    ("profile and all lists of coefficients", tried),
+    ("reported registers", registers),
+    ("lists of calls, making and serving", desk),
+    ("scripts and listing", scripts),
+    ("random slips, where they are wrong", faults::slips),
+    ("random claims, how they are bad", faults::claims),
+    ("scripts, slips and lines meet every refusal", coverage::met),
+    ("sheets applied give the register", sheets::applied),
+    ("sheets applied, moduli to 65,535", sheets::applied_wide),
+    ("sheets keep the rules of the steps", sheets::rules),
+    ("sheets and the compact version agree", sheets::versions),
+    ("tracings, what is filled and what stays", sheets::tracings),
+    ("tracings in scripts, and the working's text", sheets::texts),
+    ("typed lines by hand", linecases::by_hand),
+    ("typed lines, every byte and every short line", linechecks::places),
+    ("typed lines, ranges and remainders", linechecks::numbers),
+    ("typed lines made from known numbers", linechecks::made_lines),
+    ("typed lines, read left to right", linechecks::left_to_right),
+    ("typed lines asked, and their working", linechecks::asked),
+];
 
 /// True if every group passes.
 pub fn selftest() -> bool {
-    let groups: [(&str, fn(&mut Group)); 25] = [
-        ("cases 1 to 15", cases::cases),
-        ("tables 1 and 2 of 000", cases::tables),
-        ("sheets and their text by hand", cases::sheets_by_hand),
-        ("registers named in the papers", cases::named_registers),
-        ("refusals, every set of faults of each call", orders::orders),
-        ("refusals, each kind of fault and each place", orders::kinds),
-        ("inverses, prime powers, remainders", arithmetic),
-        ("rows of the steps keep their congruence", rows),
-        ("full history and compact version agree", versions),
-        ("profile and linear algebra, short", linear_short),
-        ("profile and linear algebra, long", linear_long),
-        ("profile and linear algebra, moduli to 65,535", linear_wide),
-        ("profile and all lists of coefficients", tried),
-        ("reported registers", registers),
-        ("lists of calls, making and serving", desk),
-        ("scripts and listing", scripts),
-        ("random slips, where they are wrong", faults::slips),
-        ("random claims, how they are bad", faults::claims),
-        ("scripts and slips meet every refusal", coverage::met),
-        ("sheets applied give the register", sheets::applied),
-        ("sheets applied, moduli to 65,535", sheets::applied_wide),
-        ("sheets keep the rules of the steps", sheets::rules),
-        ("sheets and the compact version agree", sheets::versions),
-        ("tracings, what is filled and what stays", sheets::tracings),
-        ("tracings in scripts, and the working's text", sheets::texts),
-    ];
     let mut passed = true;
-    for (name, work) in groups {
+    for (name, work) in GROUPS {
         passed &= group(name, work);
     }
     println!("{}", if passed { "all groups passed" } else { "SOME GROUP FAILED" });
@@ -302,9 +314,33 @@ fn scripts(group: &mut Group) {
             group.check(text.starts_with(begun), || format!("{name} {seed}: cut"));
         }
     }
+    scripts_of_lines(group);
     group.check(replay(&[]) == (String::new(), true), || String::from("no calls"));
-    group.check(replay(&[10; 16]).0 == "script unknown 10\n", || String::from("unknown"));
+    group.check(replay(&[11; 16]).0 == "script unknown 11\n", || String::from("unknown"));
     listings(group);
+}
+
+/// The same for readings of lines, whose scripts are long, and for lines; every script has
+/// the readings by hand in front.
+fn scripts_of_lines(group: &mut Group) {
+    let by_hand = linecalls::linecalls(0, 0);
+    let expected = replay(&by_hand).0;
+    for seed in 0..4 {
+        let script = linecalls::linecalls(seed, 300);
+        group.check(script == linecalls::linecalls(seed, 300), || format!("lines {seed}: bytes"));
+        group.check(script.starts_with(&by_hand), || format!("lines {seed}: by hand"));
+        let (text, whole) = replay(&script);
+        let lines = text.lines().count() - expected.lines().count();
+        let right = whole && text.starts_with(&expected) && lines == 300;
+        group.check(right, || format!("lines {seed}: {lines}"));
+        let (cut, whole) = replay(&script[..script.len() - 1]);
+        let begun = cut.strip_suffix("script cut short\n").unwrap_or("");
+        let left = begun.lines().count() + 1;
+        let right = !whole && text.starts_with(begun) && left == text.lines().count();
+        group.check(right, || format!("lines {seed}: cut to {left}"));
+        let input = typed::typed(seed, 60);
+        group.check(input == typed::typed(seed, 60), || format!("typed {seed}"));
+    }
 }
 
 /// The listing of random slips and of pieces of every size.

@@ -1,8 +1,10 @@
-//! The working, shown (02, A1): the listing's line of each slip, then its sheet.
+//! The working, shown (02, A1): the listing's line of each slip, or of each typed line,
+//! then its sheet.
 
+use crate::ask;
 use crate::calls::Sequence;
 use crate::join::{histories, register_after, sheet};
-use crate::listing::{for_each_slip, line};
+use crate::listing::{answers, line, queries};
 use crate::steps::StepRecord;
 
 pub const SHEET_HEADER: &str = "power k row length u theta g case";
@@ -10,7 +12,12 @@ pub const SHEET_HEADER: &str = "power k row length u theta g case";
 /// The listing's header once; for each slip its refusal alone, or the listing's line,
 /// the header of a sheet and a line for each record.
 pub fn working(slips: &[u8]) -> String {
-    for_each_slip(slips, entry)
+    answers(queries(slips), entry)
+}
+
+/// The same for typed lines.
+pub fn working_lines(input: &[u8]) -> String {
+    answers(ask::queries(input), entry)
 }
 
 fn entry(sequence: &Sequence) -> String {

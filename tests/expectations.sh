@@ -1,6 +1,6 @@
 #!/usr/bin/env bash
 # Makes what the programs are run on, and what they have to write, again from the seeds, by the second program alone:
-# stdin and stdout in each of replay, listing and working below the folder OUTPUT.
+# stdin and stdout in each of replay, listing, working and ask below the folder OUTPUT.
 # Usage: expectations.sh REFERENCE OUTPUT, or expectations.sh REFERENCE --store, which overwrites the stored ones.
 # REFERENCE is the built second program (reference/build.sh).
 set -euo pipefail
@@ -8,13 +8,14 @@ set -euo pipefail
 reference=$1
 output=$2
 [ "$output" != --store ] || output=$(dirname "$0")/../crates
-mkdir -p "$output/replay" "$output/listing" "$output/working"
+mkdir -p "$output/replay" "$output/listing" "$output/working" "$output/ask"
 
-# Lists of calls, candidates, catalogues: each operation and each refusal that it has.
+# Lists of calls, candidates, catalogues, typed lines: each operation and each refusal that it has.
 {
     "$reference" calls 11 500
     "$reference" candidates 12 1000
     "$reference" catalogues 14 300
+    "$reference" linecalls 15 2000
 } >"$output/replay/stdin"
 "$reference" replay <"$output/replay/stdin" >"$output/replay/stdout"
 
@@ -31,3 +32,7 @@ mkdir -p "$output/replay" "$output/listing" "$output/working"
     head -c 100 /dev/zero
 } >"$output/working/stdin"
 "$reference" working <"$output/working/stdin" >"$output/working/stdout"
+
+# 1,600 typed lines, the longest that are read and longer ones among them; the last has no end mark.
+"$reference" typed 41 1600 >"$output/ask/stdin"
+"$reference" ask <"$output/ask/stdin" >"$output/ask/stdout"
