@@ -6,14 +6,20 @@
  * Coefficients are lent as cells of two bytes: 129 cells (258 bytes) for a, 128 cells (256 bytes) for b, zero past the length.
  * A record is 776 bytes: the query (0..259), the length (260), a (262..519), b (520..775). A catalogue is records end to end.
  *
+ * Typed lines. A line is "mod ", the modulus in digits without a sign, a colon, then terms with commas between them, without an end mark:
+ * "mod 9: 6,3,1,-4,6". A term is digits, with or without a minus before them. Blanks (byte 32) may stand around a term but not inside it,
+ * leading zeros in the modulus and the terms; nothing or only blanks after the colon means no terms. A term may run from -2,147,483,648 to
+ * 2,147,483,647 and stands for its remainder from 0 to m - 1: -1 is m - 1, and -0 is 0.
+ *
  * Replies. Every function answers refusal + 256 * value; take them apart with diverthrone_refusal and diverthrone_value.
- * On a refusal every lent buffer holds what it held. With refusal 3 the value is a place, with every other refusal it is 0.
+ * On a refusal every lent buffer holds what it held. With refusals 3, 27 and 28 the value is a place, counted from 0 (above 2^56 - 1, which
+ * only a line could reach, it is told as 2^56 - 1), with every other refusal it is 0.
  *
  *    refusal  meaning
  *       0     none
  *       1     the modulus is below 2 or above 4,095
  *       2     the count of terms, or of cells to run, is above 128
- *       3     one of the query's terms is not below the modulus; the value is the place of the first of them, counted from 0
+ *       3     one of the query's terms is not below the modulus; the value is the place of the first of them
  *       4     the query holds something other than zero past its count
  *       5     a lent buffer has another length than stated, or the cells to run are an odd number of bytes
  *       6     a candidate has a coefficient not below m, or a nonzero one past its end (a past the length, b from the length on)
@@ -21,6 +27,9 @@
  *      24     the record found is malformed (as in 25, 6, 26) or does not pass the test against the query
  *      25     a candidate's length is above 128
  *      26     a candidate's a_0 is not 1 (if it is not below m, 6 comes first)
+ *      27     the line breaks its form; the value is the place of the first byte that no line of this form with the same bytes before it
+ *             has there, or the line's length if it ends too soon
+ *      28     a typed term is out of its range, or a typed modulus above 2,147,483,647; the value is the place of the digit that passes it
  *
  * Where several apply the first is given, in the order that each function states.
  *
@@ -68,6 +77,10 @@ uint64_t diverthrone_verify(const uint8_t *query, size_t query_len, const uint8_
 uint64_t diverthrone_generate(uint32_t modulus, const uint8_t *a, size_t a_len, const uint8_t *b, size_t b_len, uint32_t length,
                               uint8_t *cells, size_t cells_len);
 
+/* Reads a typed line into a query, the one that would be written by hand. Value 0. The line is read to its end before 1 and 2 are given.
+ * Refusals in order: 5 (query), 27 or 28 (whichever is met first from left to right), 1, 2. */
+uint64_t diverthrone_read_line(const uint8_t *line, size_t line_len, uint8_t *query, size_t query_len);
+
 static inline unsigned diverthrone_refusal(uint64_t reply) { return (unsigned)(reply % 256); }
 
 static inline uint64_t diverthrone_value(uint64_t reply) { return reply / 256; }
@@ -113,10 +126,15 @@ static inline uint64_t diverthrone_generate_null(uint32_t modulus, const uint8_t
                                 diverthrone_out(cells, cells_len), cells_len);
 }
 
+static inline uint64_t diverthrone_read_line_null(const uint8_t *line, size_t line_len, uint8_t *query, size_t query_len) {
+    return diverthrone_read_line(diverthrone_in(line, line_len), line_len, diverthrone_out(query, query_len), query_len);
+}
+
 #define diverthrone_synthesize diverthrone_synthesize_null
 #define diverthrone_look_up diverthrone_look_up_null
 #define diverthrone_verify diverthrone_verify_null
 #define diverthrone_generate diverthrone_generate_null
+#define diverthrone_read_line diverthrone_read_line_null
 
 #ifdef __cplusplus
 }

@@ -22,6 +22,8 @@ static uint64_t generate(uint8_t *const p[3], const size_t n[3]) {
     return diverthrone_generate(MODULUS, p[0], n[0], p[1], n[1], LENGTH, p[2], n[2]);
 }
 
+static uint64_t read_line(uint8_t *const p[3], const size_t n[3]) { return diverthrone_read_line(p[0], n[0], p[1], n[1]); }
+
 /* By its address, as from a host's table of functions. */
 static uint64_t (*const address)(const uint8_t *, size_t, const uint8_t *, size_t, uint8_t *, size_t) = diverthrone_look_up;
 
@@ -39,6 +41,7 @@ static const struct call calls[] = {{"synthesize", synthesize, 2, 1, 0, 0},
                                     {"look_up", look_up, 3, 2, 0, 0},
                                     {"verify", verify, 3, 3, LENGTH, 0},
                                     {"generate", generate, 3, 4, LENGTH, MODULUS},
+                                    {"read_line", read_line, 2, 5, 0, 0},
                                     {"look_up by its address", by_address, 3, 2, 0, 0}};
 
 static int checks, failures;

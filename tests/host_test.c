@@ -1,9 +1,10 @@
-/* The C interface from C: every refusal with its place and order, every verdict, found and made, buffers of every wrong length, NULL for
- * every slice, and that a refusal changes no byte. Expected values are the scope's cases or follow from its words; guard bytes stand around
- * every buffer. It is built as C++ too. */
+/* The C interface from C: every refusal with its place and order, every verdict, found and made, every byte at every place of a typed line,
+ * buffers of every wrong length, NULL for every slice, and that a refusal changes no byte. Expected values are the scope's cases or follow
+ * from its words; guard bytes stand around every buffer. It is built as C++ too. */
 #include "diverthrone.h"
 
 #include <stdio.h>
+#include <stdlib.h>
 #include <string.h>
 
 enum { GUARD = 16, ROOM = 4096 };
@@ -112,19 +113,28 @@ static uint64_t generate(uint32_t m, struct lent *a, struct lent *b, uint32_t l,
     return reply;
 }
 
+static uint64_t read_line(struct lent *line, struct lent *query) {
+    called = "read_line";
+    keep(line), keep(query);
+    uint64_t reply = diverthrone_read_line(given(line), line->len, given(query), query->len);
+    check(unchanged(line), "read_line leaves the line");
+    check(guarded(query), "read_line keeps to the query");
+    return reply;
+}
+
 /* Case 3. */
 static const unsigned nine[] = {6, 3, 1, 5, 6}, nine_a[] = {1, 4, 7, 1}, nine_b[] = {6, 0, 1};
 static struct lent q, r, c, a, b, cells;
 
-/* The whole reply is compared: beside every refusal but 3 the value is 0. */
+/* The whole reply is compared: beside every refusal but 3, 27 and 28 the value is 0. */
 static void refused(uint64_t reply, uint64_t number, const struct lent *out, const char *what) {
     check(reply == number, what);
     check(out == NULL || unchanged(out), what);
 }
 
-/* Refusal 3: the value is the place itself. */
-static void refused_at(uint64_t reply, unsigned place, const struct lent *out, const char *what) {
-    check(diverthrone_refusal(reply) == 3 && diverthrone_value(reply) == place, what);
+/* Refusals 3, 27 and 28: the value is the place itself. */
+static void refused_at(uint64_t reply, unsigned number, size_t place, const struct lent *out, const char *what) {
+    check(diverthrone_refusal(reply) == number && diverthrone_value(reply) == place, what);
     check(out == NULL || unchanged(out), what);
 }
 
@@ -181,9 +191,9 @@ static void all_refuse(unsigned number, const char *what) {
 }
 
 static void all_refuse_at(unsigned place, const char *what) {
-    refused_at(synthesize(&q, &r), place, &r, what);
-    refused_at(look_up(&q, &c, &r), place, &r, what);
-    refused_at(verify(&q, &a, &b, 3), place, NULL, what);
+    refused_at(synthesize(&q, &r), 3, place, &r, what);
+    refused_at(look_up(&q, &c, &r), 3, place, &r, what);
+    refused_at(verify(&q, &a, &b, 3), 3, place, NULL, what);
 }
 
 static void wrong_terms(void) {
@@ -483,6 +493,360 @@ static void runs(void) {
     refused(generate(7, &a, &b, 2, &cells), 5, &cells, "a of another length");
 }
 
+/* ---- typed lines ---- */
+
+static struct lent line, want;
+
+static void type_bytes(const char *text, size_t len) {
+    lend(&line, len, 0);
+    memcpy(start(&line), text, len);
+}
+
+static void type(const char *text) { type_bytes(text, strlen(text)); }
+
+/* The typed line is read, and its query is the one in `want`. */
+static void line_read(const char *what) {
+    lend(&q, QUERY, 0x5A);
+    check(read_line(&line, &q) == 0, what);
+    check(memcmp(start(&q), start(&want), QUERY) == 0, what);
+}
+
+/* The typed line is refused; with 1 and 2 the value is 0. */
+static void line_refused(unsigned number, size_t place, const char *what) {
+    lend(&q, QUERY, 0x5A);
+    refused_at(read_line(&line, &q), number, place, &q, what);
+}
+
+/* Lines with the queries that they stand for; 2^31 is 2 modulo 9, 0 modulo 2,048 and 128 modulo 4,095. */
+static const struct {
+    const char *text;
+    unsigned m, n, terms[5];
+} good_lines[] = {
+    {"mod 9: 6,3,1,-4,6", 9, 5, {6, 3, 1, 5, 6}},
+    {"mod 9:6,3,1,-4,6", 9, 5, {6, 3, 1, 5, 6}},
+    {"mod 9:  6 ,3   ,1 , -4,   6  ", 9, 5, {6, 3, 1, 5, 6}},
+    {"mod 0009: 06,003,1,-0004,000000000000006", 9, 5, {6, 3, 1, 5, 6}},
+    {"mod 9:", 9, 0, {0}},
+    {"mod 9: ", 9, 0, {0}},
+    {"mod 9:    ", 9, 0, {0}},
+    {"mod 9:0", 9, 1, {0}},
+    {"mod 9:-0,-00,0,00,1", 9, 5, {0, 0, 0, 0, 1}},
+    {"mod 9:-1,-8,-9,-10,-18", 9, 5, {8, 1, 0, 8, 0}},
+    {"mod 9:8,9,10,17,18", 9, 5, {8, 0, 1, 8, 0}},
+    {"mod 2:-1,0,1,2,-2", 2, 5, {1, 0, 1, 0, 0}},
+    {"mod 4095:4094,4095,4096,-4094,-4096", 4095, 5, {4094, 0, 1, 1, 4094}},
+    {"mod 9:-2147483648,-2147483647,2147483646,2147483647", 9, 4, {7, 8, 0, 1}},
+    {"mod 9:-00002147483648,00002147483647", 9, 2, {7, 1}},
+    {"mod 2048:-2147483648,2147483647", 2048, 2, {0, 2047}},
+    {"mod 4095:-2147483648,2147483647", 4095, 2, {3967, 127}},
+    {"mod 00000000000000000002:-2147483648,2147483647", 2, 2, {0, 1}}};
+
+static void lines_that_are_read(void) {
+    for (size_t i = 0; i < sizeof good_lines / sizeof *good_lines; i++) {
+        type(good_lines[i].text);
+        make_query(&want, good_lines[i].m, good_lines[i].terms, good_lines[i].n);
+        line_read(good_lines[i].text);
+    }
+}
+
+/* Lines with one thing wrong, with the refusal and the place of each. */
+static const struct {
+    const char *text;
+    unsigned refusal, place;
+} bad_lines[] = {
+    {"", 27, 0},
+    {" mod 9:1", 27, 0},
+    {"Mod 9:1", 27, 0},
+    {"mo d 9:1", 27, 2},
+    {"mod9:1", 27, 3},
+    {"mod\t9:1", 27, 3},
+    {"mod  9:1", 27, 4},
+    {"mod -9:1", 27, 4},
+    {"mod +9:1", 27, 4},
+    {"mod :1", 27, 4},
+    {"mod 9 :1", 27, 5},
+    {"mod 9,1", 27, 5},
+    {"mod 1 2:1", 27, 5},
+    {"mod 9::1", 27, 6},
+    {"mod 9:,1", 27, 6},
+    {"mod 9: ,1", 27, 7},
+    {"mod 9:+1", 27, 6},
+    {"mod 9:- 1", 27, 7},
+    {"mod 9:--1", 27, 7},
+    {"mod 9:1-1", 27, 7},
+    {"mod 9:1 -1", 27, 8},
+    {"mod 9:1 1", 27, 8},
+    {"mod 9:1,1 1", 27, 10},
+    {"mod 9:1,,1", 27, 8},
+    {"mod 9:1, ,1", 27, 9},
+    {"mod 9:1;1", 27, 7},
+    {"mod 9:1.", 27, 7},
+    {"mod 9:1\t", 27, 7},
+    {"mod 9:1\n", 27, 7},
+    {"mod 9:1\r", 27, 7},
+    {"mod 9:1\r\n", 27, 7},
+    {"mod 9:\n", 27, 6},
+    {"mod 9:1,", 27, 8},
+    {"mod 9:1, ", 27, 9},
+    {"mod 9:-", 27, 7},
+    {"mod 9:1,-", 27, 9},
+    {"mod 2147483648:", 28, 13},
+    {"mod 2147483649:", 28, 13},
+    {"mod 2147483650:", 28, 13},
+    {"mod 21474836470:", 28, 14},
+    {"mod 002147483648:", 28, 15},
+    {"mod 4294967305:", 28, 13},
+    {"mod 18446744073709551625:", 28, 14},
+    {"mod 9:2147483648", 28, 15},
+    {"mod 9:2147483650", 28, 15},
+    {"mod 9:21474836470", 28, 16},
+    {"mod 9:002147483648", 28, 17},
+    {"mod 9:4294967296", 28, 15},
+    {"mod 9:18446744073709551616", 28, 16},
+    {"mod 9:-2147483649", 28, 16},
+    {"mod 9:-2147483650", 28, 16},
+    {"mod 9:-21474836480", 28, 17},
+    {"mod 9:-002147483649", 28, 18},
+    {"mod 9:-4294967296", 28, 16},
+    {"mod 9:1, 9999999999 ,1", 28, 18},
+    {"mod 0:1", 1, 0},
+    {"mod 1:1", 1, 0},
+    {"mod 001:", 1, 0},
+    {"mod 4096:1", 1, 0},
+    {"mod 4096:", 1, 0},
+    {"mod 65545:1", 1, 0},
+    {"mod 2147483646:1", 1, 0},
+    {"mod 2147483647:1", 1, 0}};
+
+static void lines_that_are_refused(void) {
+    for (size_t i = 0; i < sizeof bad_lines / sizeof *bad_lines; i++) {
+        type(bad_lines[i].text);
+        line_refused(bad_lines[i].refusal, bad_lines[i].place, bad_lines[i].text);
+    }
+}
+
+/* The query of a text that keeps the form, by C's own reading of numbers. */
+static void want_by_strtol(const char *text) {
+    const char *at = strchr(text, ':');
+    long m = strtol(text + 4, NULL, 10);
+    unsigned terms[128], n = 0;
+    if (strpbrk(at, "0123456789") == NULL) at = NULL;
+    for (; at != NULL; at = strchr(at + 1, ',')) terms[n++] = (unsigned)((strtol(at + 1, NULL, 10) % m + m) % m);
+    make_query(&want, (unsigned)m, terms, n);
+}
+
+enum { READ = -1 };
+
+/* The first bytes of a text as a line: it is read, or 27 comes with the place. */
+static void becomes(const char *text, size_t len, int place, const char *what) {
+    type_bytes(text, len);
+    if (place != READ) {
+        line_refused(27, (size_t)place, what);
+        return;
+    }
+    want_by_strtol(text);
+    line_read(what);
+}
+
+static const char twelve[] = "mod 12: -3 ,007";
+
+/* From the words alone: what becomes of this line with another byte at a place, by the kind of the byte. */
+static const int with_another[15][6] = {
+    /* digit, blank, minus, comma, colon, any other */
+    {0, 0, 0, 0, 0, 0},
+    {1, 1, 1, 1, 1, 1},
+    {2, 2, 2, 2, 2, 2},
+    {3, READ, 3, 3, 3, 3},
+    {READ, 4, 4, 4, 4, 4},
+    {READ, 5, 5, 5, 6, 5},          /* "mod 1::" */
+    {7, 6, 6, 6, READ, 6},          /* "mod 120 " */
+    {8, READ, 8, 7, 7, 7},          /* ":0-", ":--" */
+    {READ, READ, READ, 8, 8, 8},    /* ": 03", ":  3" */
+    {READ, 9, 9, 9, 9, 9},          /* "-0" */
+    {READ, READ, 10, 11, 10, 10},   /* "-30,", "-3,," */
+    {11, 12, 11, READ, 11, 11},     /* "-3  0" */
+    {READ, READ, READ, 12, 12, 12}, /* ",107", ", 07", ",-07" */
+    {READ, 14, 13, READ, 13, 13},   /* "017", "0 7", "0,7" */
+    {READ, READ, 14, 15, 14, 14}};  /* "001", "00 ", "00," */
+
+static size_t kind_of(int byte) {
+    static const char marks[] = " -,:";
+    const char *mark = byte == 0 ? NULL : strchr(marks, byte);
+    if (byte >= '0' && byte <= '9') return 0;
+    return mark == NULL ? 5 : 1 + (size_t)(mark - marks);
+}
+
+static void every_byte_at_every_place(void) {
+    for (size_t place = 0; place < 15; place++)
+        for (int byte = 0; byte < 256; byte++) {
+            char text[sizeof twelve], what[64];
+            memcpy(text, twelve, sizeof twelve);
+            text[place] = (char)byte;
+            snprintf(what, sizeof what, "byte %d at place %u of %s", byte, (unsigned)place, twelve);
+            becomes(text, 15, text[place] == twelve[place] ? READ : with_another[place][kind_of(byte)], what);
+        }
+}
+
+/* For each length from 0 on whether a line so long is whole; if not, it ends too soon. */
+static void every_prefix(void) {
+    static const char *const lines[] = {twelve, "mod 9: 6,3,1,-4,6"}, *const whole[] = {"nnnnnnnyynyynyyy", "nnnnnnyyynynynnyny"};
+    for (size_t i = 0; i < 2; i++)
+        for (size_t len = 0; len <= strlen(lines[i]); len++) {
+            char text[32] = "", what[64];
+            memcpy(text, lines[i], len);
+            snprintf(what, sizeof what, "the first %u bytes of %s", (unsigned)len, lines[i]);
+            becomes(text, len, whole[i][len] == 'y' ? READ : (int)len, what);
+        }
+}
+
+/* A line modulo m with n terms, those at odd places below zero, and then the text, whose place is given back; `want` gets the query. */
+static size_t type_many(int m, unsigned n, const char *end) {
+    static char text[ROOM];
+    unsigned terms[128] = {0};
+    size_t at = (size_t)snprintf(text, sizeof text, "mod %d:", m);
+    for (unsigned i = 0; i < n; i++) {
+        int term = i % 2 == 0 ? 37 * (int)i : -31 * (int)i;
+        at += (size_t)snprintf(text + at, sizeof text - at, i == 0 ? "%d" : ",%d", term);
+        if (i < 128) terms[i] = (unsigned)((term % m + m) % m);
+    }
+    snprintf(text + at, sizeof text - at, "%s", end);
+    type(text);
+    make_query(&want, (unsigned)m, terms, n);
+    return at;
+}
+
+static void counts_of_terms(void) {
+    static const unsigned few[] = {0, 1, 2, 127, 128}, many[] = {129, 200, 256, 257, 384};
+    for (size_t i = 0; i < 5; i++) {
+        type_many(4095, few[i], "");
+        line_read("up to 128 terms");
+        type_many(9, many[i], "");
+        line_refused(2, 0, "more than 128 terms");
+    }
+}
+
+/* 27 and 28 come before 1, and of the two the one with the lower place. */
+static void order_in_lines(void) {
+    static const struct {
+        const char *text;
+        unsigned refusal, place;
+        const char *what;
+    } pairs[] = {{"mod 1:x", 27, 6, "27 comes before 1"},
+                 {"mod 4096:1,", 27, 11, "27 at the line's end comes before 1"},
+                 {"mod 0:2147483648", 28, 15, "28 comes before 1"},
+                 {"mod 2147483647:-2147483649", 28, 25, "28 of a term comes before 1"},
+                 {"mod 9:x,2147483648", 27, 6, "27 comes before a later 28"},
+                 {"mod 9:1 2147483648", 27, 8, "27 comes before a later 28, in the digits that pass"},
+                 {"mod x2147483648:", 27, 4, "27 comes before a later 28, of the modulus"},
+                 {"mod 9:2147483648,x", 28, 15, "28 comes before a later 27"},
+                 {"mod 9:2147483648x", 28, 15, "28 comes before 27 in the next byte"},
+                 {"mod 9:2147483648,", 28, 15, "28 comes before 27 at the line's end"},
+                 {"mod 2147483648x", 28, 13, "28 of the modulus comes before 27 in the next byte"},
+                 {"mod 2147483648", 28, 13, "28 of the modulus comes before 27 at the line's end"},
+                 {"mod 9:x,x", 27, 6, "the first of two 27"},
+                 {"mod 9:2147483648,-2147483649", 28, 15, "the first of two 28"}};
+    for (size_t i = 0; i < sizeof pairs / sizeof *pairs; i++) {
+        type(pairs[i].text);
+        line_refused(pairs[i].refusal, pairs[i].place, pairs[i].what);
+    }
+}
+
+/* Behind 129 terms, and with 129 terms in a line that is wrong before them. */
+static void order_behind_many_terms(void) {
+    size_t at = type_many(9, 129, "x");
+    line_refused(27, at, "27 comes before 2");
+    type_many(9, 129, ",");
+    line_refused(27, at + 1, "27 at the line's end comes before 2");
+    type_many(9, 129, ",2147483648");
+    line_refused(28, at + 10, "28 comes before 2");
+    type_many(9, 129, ",-2147483649 x");
+    line_refused(28, at + 11, "28 comes before 2 and a later 27");
+    type_many(1, 129, "");
+    line_refused(1, 0, "1 comes before 2");
+    at = type_many(4096, 129, "");
+    line_refused(1, 0, "1 comes before 2, modulus 4,096");
+    type_many(4096, 129, " x,2147483648");
+    line_refused(27, at + 1, "27 comes before 1, 2 and a later 28");
+    type_many(4096, 129, ",2147483648,x");
+    line_refused(28, at + 10, "28 comes before 1, 2 and a later 27");
+}
+
+/* 5 comes before whatever the line gets. */
+static void queries_of_other_lengths(void) {
+    static const size_t lens[] = {0, 1, 259, 261, 520};
+    static const char *const texts[] = {"mod 9: 6,3,1,-4,6", "", "mod 9:x", "mod 9:2147483648", "mod 1:"};
+    for (size_t i = 0; i < 5; i++) {
+        for (size_t j = 0; j < 5; j++) {
+            type(texts[j]);
+            lend(&q, lens[i], 0x5A);
+            refused(read_line(&line, &q), 5, &q, "a query of another length");
+        }
+        type_many(9, 129, "");
+        lend(&q, lens[i], 0x5A);
+        refused(read_line(&line, &q), 5, &q, "5 comes before 2");
+    }
+}
+
+enum { LONG = 100000, LONGEST = 131079 };
+
+static uint8_t long_line[LONGEST], long_before[LONGEST];
+
+/* A line of so many bytes: a head, two bytes in turn, the first of them at even places, and a tail. */
+static uint64_t read_long(size_t len, const char *head, const char *turn, const char *tail) {
+    for (size_t i = 0; i < len; i++) long_line[i] = (uint8_t)turn[i % 2];
+    memcpy(long_line, head, strlen(head));
+    memcpy(long_line + len - strlen(tail), tail, strlen(tail));
+    memcpy(long_before, long_line, LONGEST);
+    lend(&q, QUERY, 0x5A), keep(&q);
+    called = "read_line, a long line";
+    uint64_t reply = diverthrone_read_line(long_line, len, start(&q), q.len);
+    check(memcmp(long_line, long_before, LONGEST) == 0 && guarded(&q), "the line, and what is around the query, stay");
+    return reply;
+}
+
+static void long_line_read(const char *head, const char *turn, const char *tail, unsigned term) {
+    make_query(&want, 9, &term, 1);
+    check(read_long(LONG, head, turn, tail) == 0 && memcmp(start(&q), start(&want), QUERY) == 0, tail);
+}
+
+static void long_lines(void) {
+    long_line_read("mod 9:", "  ", "-4", 5);
+    long_line_read("mod 9:-4", "  ", " ", 5);
+    long_line_read("mod 9:", "00", "7", 7);
+    long_line_read("mod 9:-", "00", "2147483648 ", 7);
+    long_line_read("mod ", "00", "9:3", 3);
+    refused(read_long(LONG, "mod 9:", "1,", " "), 2, &q, "49,997 terms");
+    refused(read_long(LONG, "mod 1:", "1,", " "), 1, &q, "49,997 terms modulo 1");
+    refused(read_long(LONGEST, "mod 9:", "1,", ""), 2, &q, "65,537 terms: a count is not cut to 16 bits");
+    refused_at(read_long(LONG, "mod 9:", "1,", "x"), 27, 99999, &q, "27 at the last byte");
+    refused_at(read_long(LONG, "mod 9:", "1,", ""), 27, 100000, &q, "27 at the length");
+    refused_at(read_long(LONG, "mod 9:1", "  ", "1"), 27, 99999, &q, "a second number behind blanks");
+    refused_at(read_long(LONG, "mod 9:", "00", "2147483648"), 28, 99999, &q, "28 at the last byte");
+    refused_at(read_long(LONG, "mod 9:-", "00", "2147483649x"), 28, 99998, &q, "28 at the last byte but one");
+    refused_at(read_long(LONG, "mod ", "00", "2147483648:"), 28, 99998, &q, "28 of the modulus");
+    refused_at(read_long(LONG, "mod 9:", "99", ""), 28, 15, &q, "28 long before the end");
+    refused_at(read_long(LONG, "", "mo", ""), 27, 2, &q, "27 long before the end");
+}
+
+/* What is read is handed on like a query written by hand. */
+static void handed_on(void) {
+    static struct lent typed, made;
+    make_catalogue();
+    put_all(&a, 129, nine_a, 4), put_all(&b, 128, nine_b, 3);
+    type("mod 9: 6,3,1,-4,6");
+    make_query(&q, 9, nine, 5);
+    lend(&typed, QUERY, 0x5A), lend(&r, RECORD, 0x5A), lend(&made, RECORD, 0);
+    check(read_line(&line, &typed) == 0, "the line of case 3");
+    check(synthesize(&q, &r) == 0 && synthesize(&typed, &made) == 0, "case 3, by hand and typed");
+    check(memcmp(start(&r), start(&made), RECORD) == 0 && length_in(&made) == 3, "the same record");
+    check(diverthrone_value(look_up(&typed, &c, &r)) == 3, "found at place 2");
+    check(verify(&typed, &a, &b, 3) == 0, "its register passes");
+    type_many(4095, 128, "");
+    check(read_line(&line, &typed) == 0 && synthesize(&typed, &made) == 0, "128 typed terms");
+}
+
+/* ---- NULL ---- */
+
 /* NULL with length 0 in each place of each call. */
 static void nothing_lent(void) {
     const unsigned fib_a[] = {1, 6, 6}, fib_b[] = {1, 0};
@@ -508,6 +872,11 @@ static void nothing_lent(void) {
     refused(generate(7, &a, &b, 1, &null), 6, &null, "generate: NULL for the cells, a coefficient past the length");
     put(start(&a), 0, 6);
     refused(generate(7, &a, &b, 2, &null), 26, &null, "generate: NULL for the cells, a_0 is m - 1");
+    type("mod 9: 6,3,1,-4,6");
+    lend(&q, QUERY, 0x5A);
+    refused(read_line(&line, &null), 5, &null, "read_line: NULL for the query");
+    refused_at(read_line(&null, &q), 27, 0, &q, "read_line: NULL for the line is the empty one");
+    refused(read_line(&null, &null), 5, &null, "read_line: NULL for both");
 }
 
 int main(void) {
@@ -524,6 +893,16 @@ int main(void) {
     malformed();
     before_25();
     runs();
+    lines_that_are_read();
+    lines_that_are_refused();
+    every_byte_at_every_place();
+    every_prefix();
+    counts_of_terms();
+    order_in_lines();
+    order_behind_many_terms();
+    queries_of_other_lengths();
+    long_lines();
+    handed_on();
     nothing_lent();
     printf("host test: %d checks, %d failed\n", checks, failures);
     return failures != 0;

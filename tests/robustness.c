@@ -1,8 +1,8 @@
 /* Many calls through the C interface, with every buffer at the edge of a page that nobody may touch.
  *
  *   robustness --back, robustness --front
- *       replays the script on standard input and writes the same text as the second program for verify, generate, synthesize and look_up;
- *       the other operations are passed over. --back puts the end of each buffer at the forbidden page, --front its start;
+ *       replays the script on standard input and writes the same text as the second program for verify, generate, synthesize, look_up and
+ *       read_line; the other operations are passed over. --back puts the end of each buffer at the forbidden page, --front its start;
  *       every other call hands over NULL for its empty buffers.
  *   robustness --expand SEED COPIES
  *       writes the script on standard input again, with so many altered copies behind each of these calls.
@@ -18,13 +18,14 @@
 #include <sys/mman.h>
 #include <unistd.h>
 
-enum { VERIFY = 4, GENERATE = 5, SYNTHESIZE = 6, LOOK_UP = 7, FORGE = 8 };
+enum { VERIFY = 4, GENERATE = 5, SYNTHESIZE = 6, LOOK_UP = 7, FORGE = 8, READ_LINE = 10 };
 enum { HEADER = 16, WIDEST = 65535, PAINT = 0xC3, NEAR = 1024 };
 enum { QUERY = DIVERTHRONE_QUERY_BYTES, A = DIVERTHRONE_A_BYTES, B = DIVERTHRONE_B_BYTES, RECORD = DIVERTHRONE_RECORD_BYTES };
 enum { LENGTH_AT = DIVERTHRONE_LENGTH_PLACE, A_AT = DIVERTHRONE_A_PLACE, B_AT = DIVERTHRONE_B_PLACE };
 
-static const char *const names[] = {"open", "push", "register", "profile", "verify", "generate", "synthesize", "look_up", "forge"};
-static const size_t input_counts[] = {0, 0, 0, 0, 3, 2, 1, 2, 1};
+static const char *const names[] = {"open",       "push",    "register", "profile", "verify",   "generate",
+                                    "synthesize", "look_up", "forge",    "trace",   "read_line"};
+static const size_t input_counts[] = {0, 0, 0, 0, 3, 2, 1, 2, 1, 0, 1};
 
 /* One call of a script; the inputs come first among its buffers, a buffer lent for writing follows them. */
 struct call {
@@ -36,7 +37,7 @@ struct call {
 
 static size_t inputs(const struct call *c) { return input_counts[c->op]; }
 
-static int tested(const struct call *c) { return c->op >= VERIFY && c->op <= LOOK_UP; }
+static int tested(const struct call *c) { return (c->op >= VERIFY && c->op <= LOOK_UP) || c->op == READ_LINE; }
 
 static size_t buffers(const struct call *c) { return c->op == VERIFY ? 3 : inputs(c) + 1; }
 
@@ -72,7 +73,7 @@ static int read_call(struct call *c) {
     if (got == 0) return 0;
     if (got < HEADER) broken("cut short");
     snprintf(unknown, sizeof unknown, "unknown %u", (unsigned)h[0]);
-    if (h[0] > FORGE) broken(unknown);
+    if (h[0] > READ_LINE) broken(unknown);
     c->op = h[0], c->fill = h[1], c->number = number_at(h + 4, 4), c->l = number_at(h + 14, 2);
     for (size_t i = 0; i < 3; i++) c->len[i] = number_at(h + 8 + 2 * i, 2);
     if (c->op == FORGE && c->len[0] != QUERY) broken("bad forge");
@@ -141,6 +142,7 @@ static uint64_t enter(const struct call *c, uint8_t *const p[3]) {
     case VERIFY: return diverthrone_verify(p[0], n[0], p[1], n[1], p[2], n[2], c->number);
     case GENERATE: return diverthrone_generate(c->number, p[0], n[0], p[1], n[1], c->l, p[2], n[2]);
     case SYNTHESIZE: return diverthrone_synthesize(p[0], n[0], p[1], n[1]);
+    case READ_LINE: return diverthrone_read_line(p[0], n[0], p[1], n[1]);
     default: return diverthrone_look_up(p[0], n[0], p[1], n[1], p[2], n[2]);
     }
 }
@@ -151,12 +153,12 @@ static uint32_t hash(const uint8_t *s, size_t len) {
     return state;
 }
 
-/* With refusal 3 the value is a place. A value where there should be none is written out, so that the comparison finds it. */
+/* With refusals 3, 27 and 28 the value is a place. A value where there should be none is written out, so that the comparison finds it. */
 static void print_reply(unsigned op, uint64_t reply) {
     unsigned refusal = diverthrone_refusal(reply);
     unsigned long long value = diverthrone_value(reply);
-    if (refusal == 3)
-        printf("%s refused 3 at %llu", names[op], value);
+    if (refusal == 3 || refusal == 27 || refusal == 28)
+        printf("%s refused %u at %llu", names[op], refusal, value);
     else if (refusal != 0 && value != 0)
         printf("%s refused %u with the value %llu", names[op], refusal, value);
     else if (refusal != 0)
@@ -425,13 +427,89 @@ static void other_operation(struct call *c) {
     }
 }
 
+/* Puts a text into a line at a place, instead of so many of its bytes. */
+static void splice(struct call *c, size_t at, size_t out, const char *text) {
+    size_t in = strlen(text), rest = c->len[0] - at - out;
+    if (at + in + rest > WIDEST) return;
+    memmove(c->bytes[0] + at + in, c->bytes[0] + at + out, rest);
+    memcpy(c->bytes[0] + at, text, in);
+    c->len[0] = at + in + rest;
+}
+
+static const char *piece(void) {
+    static const char *const pieces[] = {"0",  "1",  "9",  " ",  ",",  "-",  ":",  ",1",   ", -1", " ,0", "  ",
+                                         "-0", "--", ",,", "1 ", "00", "+1", "\t", "\r\n", "mod ", "x",   "000000000000"};
+    return pieces[below(sizeof pieces / sizeof *pieces)];
+}
+
+/* A piece put in, or put in place of one or two bytes; the ends get more than their share. */
+static void one_piece(struct call *c) {
+    size_t len = c->len[0], some = below(len + 1);
+    const size_t places[] = {0, len, some, some};
+    size_t at = places[below(4)], out = below(3);
+    splice(c, at, at + out > len ? 0 : out, piece());
+}
+
+static int is_digit(uint8_t byte) { return byte >= '0' && byte <= '9'; }
+
+/* Another digit in a number, which stays one. */
+static void one_digit(struct call *c) {
+    size_t at = below(c->len[0] + 1);
+    while (at < c->len[0] && !is_digit(c->bytes[0][at])) at++;
+    if (at < c->len[0]) c->bytes[0][at] = (uint8_t)('0' + below(10));
+}
+
+/* Numbers at the ends of the ranges and of types, and any others. */
+static void one_number(struct call *c) {
+    static const char *const ends[] = {"0",          "1",          "2",          "4095",       "4096",        "65538",
+                                       "2147483646", "2147483647", "2147483648", "2147483649", "2147483650",  "2147483657",
+                                       "4294967295", "4294967296", "4294967305", "9999999999", "21474836470", "18446744073709551625"};
+    char text[48];
+    size_t from = below(2) ? 4 : below(c->len[0] + 1), out = 0;
+    while (from < c->len[0] && !is_digit(c->bytes[0][from])) from++;
+    while (from + out < c->len[0] && is_digit(c->bytes[0][from + out])) out++;
+    uint32_t r = any(), zeros = below(4) ? 0 : below(16), kind = below(3);
+    snprintf(text, sizeof text, "%0*u", (int)zeros, kind == 1 ? r % 4096 : r);
+    if (out > 0) splice(c, from, out, kind == 0 ? ends[r % (sizeof ends / sizeof *ends)] : text);
+}
+
+/* A minus before a number, or none where there was one. */
+static void one_sign(struct call *c) {
+    size_t at = below(c->len[0] + 1);
+    while (at < c->len[0] && !is_digit(c->bytes[0][at])) at++;
+    if (at == c->len[0] || at == 0) return;
+    if (c->bytes[0][at - 1] == '-')
+        splice(c, at - 1, 1, "");
+    else
+        splice(c, at, 0, "-");
+}
+
+static void shorter(struct call *c) {
+    size_t few = 1 + below(3), any_length = below(c->len[0] + 1);
+    c->len[0] = below(2) || few > c->len[0] ? any_length : c->len[0] - few;
+}
+
+/* A piece many times over: more than 128 terms, long numbers, many blanks. */
+static void longer(struct call *c) {
+    static const char *const more[] = {",1", ",-2", " ,3 ", ",4095", ",-2147483648", " ", "0", ",-0"};
+    const char *text = more[below(sizeof more / sizeof *more)];
+    for (size_t times = below(2) ? below(8) : 120 + below(16); times > 0; times--) splice(c, c->len[0], 0, text);
+    if (below(3) == 0) splice(c, c->len[0], 0, piece());
+}
+
 /* One alteration in three is followed by another one, for the order of the refusals. */
 static void alter(struct call *c) {
     static void (*const ways[])(struct call *) = {one_byte,        one_cell,        one_cell,      one_term,      one_term,     wrong_terms,
                                                   one_length,      other_fill,      other_modulus, other_modulus, wild_modulus, other_count,
                                                   other_operation, other_operation, other_l,       other_lead};
-    do ways[below(sizeof ways / sizeof *ways)](c);
-    while (below(3) == 0);
+    static void (*const line_ways[])(struct call *) = {one_byte,   one_piece, one_piece, one_digit, one_digit,  one_number,
+                                                       one_number, one_sign,  shorter,   longer,    one_length, other_fill};
+    do {
+        if (c->op == READ_LINE)
+            line_ways[below(sizeof line_ways / sizeof *line_ways)](c);
+        else
+            ways[below(sizeof ways / sizeof *ways)](c);
+    } while (below(3) == 0);
 }
 
 static void copy(struct call *to, const struct call *from) {

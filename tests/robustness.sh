@@ -49,7 +49,7 @@ round() {
     "$work/reference" "$1" "$2" "$3" >"$work/plan"
     "$work/sanitized" --expand "$2" "$copies" <"$work/plan" >"$work/script"
     "$work/reference" replay <"$work/script" >"$work/all"
-    grep -E '^(verify|generate|synthesize|look_up) ' "$work/all" >"$work/want"
+    grep -E '^(verify|generate|synthesize|look_up|read_line) ' "$work/all" >"$work/want"
     for program in sanitized plain; do
         for side in --back --front; do
             compare "$program" "$side" "$1 $2 $3 with $copies copies"
@@ -57,21 +57,21 @@ round() {
     done
     awk '
         { n[$1]++ }
-        $2 == "refused" { n[$3 != 3 ? $3 : $5 == 0 ? "3_at_0" : "3_later"]++ }
+        $2 == "refused" { n[$3 != 3 && $3 != 27 ? $3 : $5 == 0 ? $3 "_at_0" : $3 "_later"]++ }
         END { for (k in n) print k, n[k] }' "$work/want" >>"$work/tally"
     calls=$((calls + $(wc -l <"$work/want")))
 }
 
-# A refusal that was never seen is a fault of the test; 3 must have come at place 0 and at later ones.
+# A refusal that was never seen is a fault of the test; 3 and 27 must have come at place 0 and at later ones.
 total() {
     awk -v calls="$calls" -v seeds="$seed" -v seconds=$(($(date +%s) - began)) '
         { n[$1] += $2 }
         END {
             printf "robustness: %d calls compared, each made 4 times, 0 differences;", calls
-            operations = split("verify generate synthesize look_up", k)
+            operations = split("verify generate synthesize look_up read_line", k)
             for (i = 1; i <= operations; i++) printf " %s %d,", k[i], n[k[i]]
             printf " refused"
-            refusals = split("1 2 3_at_0 3_later 4 5 6 23 24 25 26", r)
+            refusals = split("1 2 3_at_0 3_later 4 5 6 23 24 25 26 27_at_0 27_later 28", r)
             for (i = 1; i <= refusals; i++) {
                 printf " %s: %d,", r[i], n[r[i]]
                 unseen += n[r[i]] == 0
@@ -88,5 +88,6 @@ while [ "$calls" -lt "$least" ] || [ "$seed" -eq 0 ]; do
     seed=$((seed + 1))
     round candidates "$seed" 3000
     round catalogues "$seed" 3000
+    round linecalls "$seed" 3000
 done
 total

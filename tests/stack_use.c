@@ -11,15 +11,18 @@
 #include <sys/mman.h>
 
 enum { TERMS = 128, STACK = 1 << 17, PAINT = 0xC3 };
-enum { NOTHING, VERIFY, GENERATE, SYNTHESIZE, MADE, FOUND, REGISTER, TRACE, KINDS };
+enum { NOTHING, VERIFY, GENERATE, SYNTHESIZE, MADE, FOUND, READ_LINE, REGISTER, TRACE, KINDS };
 
 uint32_t timing_register(uint32_t m, uint32_t count, const uint32_t *terms, uint8_t *a, size_t a_len, uint8_t *b, size_t b_len);
 uint64_t timing_trace(uint32_t m, uint32_t count, const uint32_t *terms, uint8_t *a, size_t a_len, uint8_t *b, size_t b_len);
 
-static const char *const names[KINDS] = {"no call", "verify", "generate", "synthesize", "look_up made", "look_up found", "register", "trace"};
+static const char *const names[KINDS] = {"no call",       "verify",    "generate", "synthesize", "look_up made",
+                                         "look_up found", "read_line", "register", "trace"};
 static uint8_t *stack, *caller;
 static uint8_t query[DIVERTHRONE_QUERY_BYTES], record[DIVERTHRONE_RECORD_BYTES], shelf[DIVERTHRONE_RECORD_BYTES], cells[2 * TERMS];
 static uint8_t a_cells[DIVERTHRONE_A_BYTES], b_cells[DIVERTHRONE_B_BYTES];
+static uint8_t line[1024], typed[DIVERTHRONE_QUERY_BYTES];
+static size_t line_len;
 static uint32_t modulus, terms[TERMS];
 static uint64_t state = 1;
 
@@ -42,6 +45,7 @@ static uint64_t enter(int kind) {
     case SYNTHESIZE: return diverthrone_synthesize(query, sizeof query, record, sizeof record);
     case MADE: return diverthrone_look_up(query, sizeof query, shelf, 0, record, sizeof record);
     case FOUND: return diverthrone_look_up(query, sizeof query, shelf, sizeof shelf, record, sizeof record);
+    case READ_LINE: return diverthrone_read_line(line, line_len, typed, sizeof typed);
     case REGISTER: return timing_register(modulus, TERMS, terms, a_cells, sizeof a_cells, b_cells, sizeof b_cells) != l;
     case TRACE: return timing_trace(modulus, TERMS, terms, a_cells, sizeof a_cells, b_cells, sizeof b_cells) == 0;
     default: return 0;
@@ -89,16 +93,29 @@ static void make_query(int shape) {
     }
 }
 
+/* The line of the same query, with every other term below zero. */
+static void type_line(void) {
+    char *text = (char *)line;
+    line_len = (size_t)snprintf(text, sizeof line, "mod %u:", (unsigned)modulus);
+    for (size_t i = 0; i < TERMS; i++) {
+        long term = (long)terms[i] - (i % 2 == 0 ? 0 : (long)modulus);
+        line_len += (size_t)snprintf(text + line_len, sizeof line - line_len, i == 0 ? "%ld" : ",%ld", term);
+    }
+    need(line_len < sizeof line, "the line is too long");
+}
+
 /* The largest depths for one modulus go up into `most`. */
 static void measure(uint32_t m, size_t most[KINDS]) {
     modulus = m;
     for (int shape = 0; shape < 3; shape++) {
         make_query(shape);
+        type_line();
         need(diverthrone_synthesize(query, sizeof query, shelf, sizeof shelf) == 0, "a record for the catalogue");
         for (int kind = 0; kind < KINDS; kind++) {
             size_t d = depth(kind);
             if (d > most[kind]) most[kind] = d;
         }
+        need(memcmp(typed, query, sizeof query) == 0, "the query of the line");
     }
 }
 

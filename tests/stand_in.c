@@ -5,6 +5,7 @@
 #undef diverthrone_look_up
 #undef diverthrone_verify
 #undef diverthrone_generate
+#undef diverthrone_read_line
 
 const uint8_t *seen[3];
 size_t seen_len[3];
@@ -35,4 +36,9 @@ uint64_t diverthrone_generate(uint32_t modulus, const uint8_t *a, size_t a_len, 
     see(0, a, a_len), see(1, b, b_len), see(2, cells, cells_len);
     seen_number[0] = length, seen_number[1] = modulus;
     return 4;
+}
+
+uint64_t diverthrone_read_line(const uint8_t *line, size_t line_len, uint8_t *query, size_t query_len) {
+    see(0, line, line_len), see(1, query, query_len);
+    return 5;
 }
