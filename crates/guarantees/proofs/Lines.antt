@@ -32,7 +32,7 @@ use Rattle.lines.proofs.Values.{line-read}
 use Rattle.lines.proofs.Told.{ReadAs, Tells, told, exactly, modulus-same, terms-same}
 use Rattle.lines.proofs.Scanning.{picked, passed}
 use Rattle.lines.proofs.Writing.{length-map, at-map}
-use Rattle.guarantees.specs.Lines.{Says, Inside, ByHand, Holds, exitOf, Reading, buffer, form, range, modulus, count, done, ReadsLine, TypedLines}
+use Rattle.guarantees.specs.Lines.{Says, Inside, ByHand, Holds, exitOf, Reason, buffer, form, range, modulus, count, done, ReadsLine, TypedLines}
 
 -- ---- the last two tests
 
@@ -73,26 +73,26 @@ module _ (line query : List ℕ) where
   is-done l h s i n = line-reply l h s ∙ passed _ _ (inside-not (modulusOf l) i) ∙ passed _ _ (le-ltb _ _ n)
 
   -- a line that reads well meets one of the last three
-  line-reading : (l : Line) → length query ≡ queryBytes → Says line l → Reading line query (readOf line query)
-  line-reading l h s = go (outside (modulusOf l)) refl (ltb maxTerms (length (valuesOf l))) refl
+  line-reason : (l : Line) → length query ≡ queryBytes → Says line l → Reason line query (readOf line query)
+  line-reason l h s = go (outside (modulusOf l)) refl (ltb maxTerms (length (valuesOf l))) refl
     where
-      go : (a : Bool) → outside (modulusOf l) ≡ a → (b : Bool) → ltb maxTerms (length (valuesOf l)) ≡ b → Reading line query (readOf line query)
+      go : (a : Bool) → outside (modulusOf l) ≡ a → (b : Bool) → ltb maxTerms (length (valuesOf l)) ≡ b → Reason line query (readOf line query)
       go true e b f =
           let o : Inside (modulusOf l) → ⊥ = λ i. false-true (sym (inside-not (modulusOf l) i) ∙ e) in
           modulus l h s o (is-modulus l h s o)
       go false e true f = count l h s (is-inside (modulusOf l) e) (ltb-true _ _ f) (is-count l h s (is-inside (modulusOf l) e) (ltb-true _ _ f))
       go false e false f = done l h s (is-inside (modulusOf l) e) (ltb-false _ _ f) (is-done l h s (is-inside (modulusOf l) e) (ltb-false _ _ f))
 
-  found-reading : length query ≡ queryBytes → (f : Found) → foundIn line ≡ f → Tells line f → Reading line query (readOf line query)
-  found-reading h (broken i) e t = form i h t (found-reply h ∙ ap replyOf e)
-  found-reading h (past i) e t = range i h t (found-reply h ∙ ap replyOf e)
-  found-reading h (read m ts) e t = line-reading (t .line) h (record { spelt = t .spelt; fits = t .fits })
+  found-reason : length query ≡ queryBytes → (f : Found) → foundIn line ≡ f → Tells line f → Reason line query (readOf line query)
+  found-reason h (broken i) e t = form i h t (found-reply h ∙ ap replyOf e)
+  found-reason h (past i) e t = range i h t (found-reply h ∙ ap replyOf e)
+  found-reason h (read m ts) e t = line-reason (t .line) h (record { spelt = t .spelt; fits = t .fits })
 
-  reading : Reading line query (readOf line query)
-  reading = go (eqb (length query) queryBytes) refl
+  reason : Reason line query (readOf line query)
+  reason = go (eqb (length query) queryBytes) refl
     where
-      go : (t : Bool) → eqb (length query) queryBytes ≡ t → Reading line query (readOf line query)
-      go true e = found-reading (eqb-true _ _ e) (foundIn line) refl (told line)
+      go : (t : Bool) → eqb (length query) queryBytes ≡ t → Reason line query (readOf line query)
+      go true e = found-reason (eqb-true _ _ e) (foundIn line) refl (told line)
       go false e = buffer (eqb-false _ _ e) (is-buffer (eqb-false _ _ e))
 
 -- ---- the query of a line
@@ -144,9 +144,9 @@ same-meaning line l l' s s' = sym (line-read l (s .fits)) ∙ ap foundIn (s .spe
 module _ (line query : List ℕ) where
   -- only the last reply says done
   done-line : readOf line query ≡ Done → (l : Line) → Says line l → Inside (modulusOf l) × (length (valuesOf l) ≤ maxTerms)
-  done-line d l s = go (reading line query)
+  done-line d l s = go (reason line query)
     where
-      go : Reading line query (readOf line query) → Inside (modulusOf l) × (length (valuesOf l) ≤ maxTerms)
+      go : Reason line query (readOf line query) → Inside (modulusOf l) × (length (valuesOf l) ≤ maxTerms)
       go (buffer h e) = refused-done (sym e ∙ d)
       go (form i h t e) = refused-done (sym e ∙ d)
       go (range i h t e) = refused-done (sym e ∙ d)
@@ -177,7 +177,7 @@ module _ (line query : List ℕ) where
   reads-line : ReadsLine line query
   reads-line =
       record {
-        reply = reading line query;
+        reason = reason line query;
         is-buffer = is-buffer line query;
         is-form = λ i h t. found-reply line query h ∙ ap replyOf (exactly line (broken i) t);
         is-range = λ i h t. found-reply line query h ∙ ap replyOf (exactly line (past i) t);

@@ -47,18 +47,18 @@ pub record Holds (l : Line) (query : List ℕ) : Type 0 where
 abbrev pub exitOf : List ℕ → List ℕ → List ℕ
 exitOf line query = filled (readOf line query) (queryIn (foundIn line)) query
 
--- Each reply to a line that is lent a query buffer, exactly under its condition. Every line is met by one of them.
-pub data Reading (line query : List ℕ) (o : Outcome) : Type 0 where
-  buffer : (length query ≡ queryBytes → ⊥) → o ≡ Refused R.Buffer → Reading line query o
-  form : (i : ℕ) → length query ≡ queryBytes → BrokenAt line i → o ≡ Refused (R.LineForm i) → Reading line query o
-  range : (i : ℕ) → length query ≡ queryBytes → PastAt line i → o ≡ Refused (R.LineRange i) → Reading line query o
-  modulus : (l : Line) → length query ≡ queryBytes → Says line l → (Inside (modulusOf l) → ⊥) → o ≡ Refused R.Modulus → Reading line query o
-  count : (l : Line) → length query ≡ queryBytes → Says line l → Inside (modulusOf l) → maxTerms < length (valuesOf l) → o ≡ Refused R.Count → Reading line query o
-  done : (l : Line) → length query ≡ queryBytes → Says line l → Inside (modulusOf l) → length (valuesOf l) ≤ maxTerms → o ≡ Done → Reading line query o
+-- The reason of a reply to a line that is lent a query buffer: for each reply the condition under which it is given.
+pub data Reason (line query : List ℕ) (o : Outcome) : Type 0 where
+  buffer : (length query ≡ queryBytes → ⊥) → o ≡ Refused R.Buffer → Reason line query o
+  form : (i : ℕ) → length query ≡ queryBytes → BrokenAt line i → o ≡ Refused (R.LineForm i) → Reason line query o
+  range : (i : ℕ) → length query ≡ queryBytes → PastAt line i → o ≡ Refused (R.LineRange i) → Reason line query o
+  modulus : (l : Line) → length query ≡ queryBytes → Says line l → (Inside (modulusOf l) → ⊥) → o ≡ Refused R.Modulus → Reason line query o
+  count : (l : Line) → length query ≡ queryBytes → Says line l → Inside (modulusOf l) → maxTerms < length (valuesOf l) → o ≡ Refused R.Count → Reason line query o
+  done : (l : Line) → length query ≡ queryBytes → Says line l → Inside (modulusOf l) → length (valuesOf l) ≤ maxTerms → o ≡ Done → Reason line query o
 
 pub record ReadsLine (line query : List ℕ) : Type 0 where
-  -- what is replied has its reason
-  pub reply : Reading line query (readOf line query)
+  -- what is replied has its reason, so that nothing but these six is replied
+  pub reason : Reason line query (readOf line query)
   -- and what has a reason is replied: 5 for a buffer of another length
   pub is-buffer : (length query ≡ queryBytes → ⊥) → readOf line query ≡ Refused R.Buffer
   -- 27 and 28 where the form is broken or a number passes its range
