@@ -24,6 +24,8 @@ uint32_t timing_register(uint32_t m, uint32_t count, const uint32_t *terms, uint
 uint64_t timing_trace(uint32_t m, uint32_t count, const uint32_t *terms, uint8_t *a, size_t a_len, uint8_t *b, size_t b_len);
 void plain_register(uint32_t m, const uint32_t *s, int n, uint32_t *a, uint32_t *b, uint32_t *lens);
 void tricks_register(uint32_t m, const uint32_t *s, int n, uint32_t *a, uint32_t *b, uint32_t *lens);
+uint64_t plain_read_line(const uint8_t *line, size_t len, uint8_t *query);
+uint64_t strtol_read_line(const char *line, uint8_t *query);
 }
 
 // A round times a batch of calls of each entry, all on the same sequences. Each round has other sequences and another order of the
@@ -211,10 +213,46 @@ static void look_up() {
     printf("look_up of the last of %zu records with the same modulus and count: / C loop over memcmp, us\n        %.2f  %.1f\n", count, t[0] / t[1], t[0]);
 }
 
+// Lines of 128 terms of up to so many digits, every third negative, with a blank behind each comma.
+static std::string typed(uint32_t m, int digits) {
+    uint32_t limit = 1;
+    for (int i = 0; i < digits && limit < 1000000000; i++) limit *= 10;
+    std::string line = "mod " + std::to_string(m) + ":";
+    for (int i = 0; i < 128; i++) line += (i ? ", " : " ") + std::string(below(3) ? "" : "-") + std::to_string(below(limit));
+    return line;
+}
+
+static void lines() {
+    printf("read_line, 128 terms: / C by descent, / strtol without checks of the form, / record, us, bytes\n");
+    for (int digits : {1, 4, 9}) {
+        static std::vector<std::string> pool(POOL);
+        static uint8_t ours[260], plain[260], by_strtol[260];
+        size_t bytes = 0;
+        prepare(4093, 128);
+        for (auto &line : pool) line = typed(4093, digits), bytes += line.size();
+        auto at = [&](int i) { return (const uint8_t *)pool[i].data(); };
+        for (int i = 0; i < POOL; i++) {
+            uint64_t r = diverthrone_read_line(at(i), pool[i].size(), ours, 260);
+            if (r || plain_read_line(at(i), pool[i].size(), plain) || strtol_read_line(pool[i].c_str(), by_strtol) || memcmp(ours, plain, 260) ||
+                memcmp(ours, by_strtol, 260)) {
+                printf("differs: %s\n", pool[i].c_str());
+                return;
+            }
+        }
+        auto t = measure({{"read_line", [&](int i) { diverthrone_read_line(at(i), pool[i].size(), ours, 260); }},
+                          {"descent", [&](int i) { plain_read_line(at(i), pool[i].size(), plain); }},
+                          {"strtol", [&](int i) { strtol_read_line(pool[i].c_str(), by_strtol); }},
+                          {"record", [&](int i) { diverthrone_synthesize(queries[i], 260, record, 776); }}},
+                         101);
+        printf("  %d digits  %.2f  %.2f  %.2f  %.2f  %zu\n", digits, t[0] / t[1], t[0] / t[2], t[0] / t[3], t[0], bytes / POOL);
+    }
+}
+
 int main() {
     primes();
     composites();
     working();
     growth();
     look_up();
+    lines();
 }

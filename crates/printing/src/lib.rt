@@ -1,5 +1,10 @@
 // What programs write to standard output, said once for all of them: texts and numbers, refusals, and the listing's lines.
+use catalogue::A_PLACE;
+use catalogue::B_PLACE;
+use catalogue::LENGTH_CELL;
+use catalogue::RECORD_BYTES;
 use libc::STDOUT_FILENO;
+use sequence::Outcome;
 use sequence::Place;
 use sequence::Refusal;
 use steps::CELLS;
@@ -7,6 +12,7 @@ ghost use mathlib.Core.Path.{_≡_};
 ghost use Prim.Native.Nat.{_<_};
 ghost use lib.ListN.{length};
 ghost use Rattle.sequence.specs.Limits.{maxCells, aBytes};
+ghost use Rattle.catalogue.specs.Rules.{recordBytes};
 
 pub fn text(s: &[u8]) {
     io::write_all(STDOUT_FILENO, s);
@@ -85,4 +91,23 @@ pub fn register_line(modulus: u32, count: u32, l: u32, a: &[u8])
     text(b" ");
     coefficients(a, d);
     text(b"\n");
+}
+
+fn record_line(entry: &[u8])
+    requires { ⌜ length (now entry) ≡ recordBytes ⌝ }
+{
+    let modulus = cells::cell(entry, 0);
+    let count = cells::cell(entry, 1);
+    let l = cells::cell(entry, LENGTH_CELL);
+    register_line(modulus, count, l, &entry[A_PLACE..B_PLACE]);
+}
+
+// The listing's line of a query, or its refusal line.
+pub fn query_line(query: &[u8]) {
+    let mut out = [0u8; RECORD_BYTES];
+    let o = catalogue::synthesize(query, &mut out);
+    match o {
+        Outcome::Refused(r) => refusal_line(r),
+        Outcome::Done => record_line(&out),
+    }
 }

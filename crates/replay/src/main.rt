@@ -368,6 +368,26 @@ fn trace(s: Sequence, c: Call) -> Turn {
     kept(s, true)
 }
 
+fn read_line_in(line: &mut [u8], query: &mut [u8]) -> bool {
+    if is_cut(line) {
+        return false;
+    }
+    let o = lines::read_line(line, query);
+    printing::text(b"read_line ");
+    outcome(o);
+    end_hash(hash(query));
+    true
+}
+
+fn read_line(c: Call) -> bool {
+    let fill = c.fill;
+    let x = c.x as usize;
+    let y = c.y as usize;
+    let mut line = [0u8; 65536];
+    let mut query = [fill; 65536];
+    read_line_in(&mut line[0..x], &mut query[0..y])
+}
+
 fn forge(s: Sequence, c: Call) -> Turn {
     if c.x as usize != QUERY_BYTES {
         printing::text(b"script bad forge\n");
@@ -402,6 +422,7 @@ fn act(s: Sequence, c: Call) -> Turn {
         7 => kept(s, look_up(c)),
         8 => forge(s, c),
         9 => trace(s, c),
+        10 => kept(s, read_line(c)),
         _ => unknown(s, operation),
     }
 }

@@ -1,8 +1,8 @@
--- `working::main` meets its contract: the turns that are left fall.
+-- `working::queries` meets its contract: the turns that are left fall.
 -- Assumes nothing.
 use borrow.Author.Needs.{needs}
-use Rattle.working.proofs.main.Statement.{statement}
-use Rattle.working.proofs.main.Tie as tie
+use Rattle.working.proofs.queries.Statement.{statement}
+use Rattle.working.proofs.queries.Tie as tie
 
 abbrev Inv-loop : tie.InvT-loop
 Inv-loop turns₀ turns = Unit {0}
@@ -34,8 +34,8 @@ returns c = tt
 returns-2 : tie.Need-returns-2 Inv-loop μ-loop
 returns-2 c = tt
 
-pub main-spec : {M : Type 1} → statement M
-main-spec =
+pub queries-spec : {M : Type 1} → statement M
+queries-spec =
     tie.close
     (tie.spec
     Inv-loop

@@ -1,0 +1,4 @@
+pub mod Holding
+pub mod Replies
+pub mod Pieces
+pub mod Turns
