@@ -8,11 +8,10 @@ use lib.IntN.{ℤ, pos, negsuc, negℤ, _-ℤ_, +ℤ-idl}
 use mir.Syntax.{w32}
 use mir.Val.{SFits, toZ, ofZ}
 use mir.Facts.{toZ-ofZ, toZ-pos}
-use Rattle.lines.specs.declared.Class.{Class}
 use Rattle.lines.specs.declared.State.{State}
 use Rattle.lines.specs.declared.Cursor.{Cursor}
 use Rattle.lines.specs.Form.{signed, limit}
-use Rattle.lines.specs.Reading.{byClass, met}
+use Rattle.lines.specs.Reading.{stateAfter}
 
 pub limit-most : (s : Bool) → limit s ≤ 2147483648
 limit-most true = omega arith
@@ -60,9 +59,6 @@ pub same-cursor : {p p' : State} {s s' : Bool} {v v' m m' : ℕ} → p ≡ p' �
     → _≡_ {A = Cursor} (record { state = p; minus = s; size = v; modulus = m }) (record { state = p'; minus = s'; size = v'; modulus = m' })
 same-cursor a b c d = λ i. record { state = a i; minus = b i; size = c i; modulus = d i }
 
--- what is the state after a byte in the row of q is so in that of p, where p is q
-pub in-row : {p q r : State} (k : Class) → p ≡ q → r ≡ byClass q k → r ≡ byClass p k
-in-row k e h = h ∙ sym (ap (λ (p : State). byClass p k) e)
-
-pub met-in-row : {p q r : State} (b : ℕ) (s : State) → p ≡ q → r ≡ met q b s → r ≡ met p b s
-met-in-row b s e h = h ∙ sym (ap (λ (p : State). met p b s) e)
+-- the state after a byte in the row of q is that in the row of p, where p is q
+pub in-row : {p q r : State} (b : ℕ) → p ≡ q → r ≡ stateAfter q b → r ≡ stateAfter p b
+in-row b e h = h ∙ sym (ap (λ (p : State). stateAfter p b) e)

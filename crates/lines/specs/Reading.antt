@@ -28,41 +28,24 @@ goes digit comma minus blank Minus = minus
 goes digit comma minus blank Blank = blank
 goes digit comma minus blank Other = Wrong
 
-abbrev pub byClass : State → Class → State
-byClass Start k = Wrong
-byClass AfterM k = Wrong
-byClass AfterO k = Wrong
-byClass AfterD k = Wrong
-byClass BeforeModulus k = goes InModulus Wrong Wrong Wrong k
-byClass InModulus k = goes InModulus Wrong Wrong Wrong k
-byClass BeforeTerms k = goes InTerm Wrong AfterMinus BeforeTerms k
-byClass AfterMinus k = goes InTerm Wrong Wrong Wrong k
-byClass InTerm k = goes InTerm AfterComma Wrong AfterTerm k
-byClass AfterTerm k = goes Wrong AfterComma Wrong AfterTerm k
-byClass AfterComma k = goes InTerm Wrong AfterMinus AfterComma k
-byClass Wrong k = Wrong
-
 -- the fixed text and the colon are met as themselves; any other byte leads to q
 abbrev pub meets : ℕ → ℕ → State → State → State
 meets b x next q = pick (eqb b x) next q
 
-abbrev pub met : State → ℕ → State → State
-met Start b q = meets b 109 AfterM q
-met AfterM b q = meets b 111 AfterO q
-met AfterO b q = meets b 100 AfterD q
-met AfterD b q = meets b 32 BeforeModulus q
-met BeforeModulus b q = q
-met InModulus b q = meets b 58 BeforeTerms q
-met BeforeTerms b q = q
-met AfterMinus b q = q
-met InTerm b q = q
-met AfterTerm b q = q
-met AfterComma b q = q
-met Wrong b q = q
-
 -- the state after a byte
 abbrev pub stateAfter : State → ℕ → State
-stateAfter p b = met p b (byClass p (classOf b))
+stateAfter Start b = meets b 109 AfterM Wrong
+stateAfter AfterM b = meets b 111 AfterO Wrong
+stateAfter AfterO b = meets b 100 AfterD Wrong
+stateAfter AfterD b = meets b 32 BeforeModulus Wrong
+stateAfter BeforeModulus b = goes InModulus Wrong Wrong Wrong (classOf b)
+stateAfter InModulus b = meets b 58 BeforeTerms (goes InModulus Wrong Wrong Wrong (classOf b))
+stateAfter BeforeTerms b = goes InTerm Wrong AfterMinus BeforeTerms (classOf b)
+stateAfter AfterMinus b = goes InTerm Wrong Wrong Wrong (classOf b)
+stateAfter InTerm b = goes InTerm AfterComma Wrong AfterTerm (classOf b)
+stateAfter AfterTerm b = goes Wrong AfterComma Wrong AfterTerm (classOf b)
+stateAfter AfterComma b = goes InTerm Wrong AfterMinus AfterComma (classOf b)
+stateAfter Wrong b = Wrong
 
 -- a line may end here
 abbrev pub mayEnd : State → Bool

@@ -19,7 +19,7 @@ ghost use Rattle.sequence.specs.Limits.{maxTerms, queryBytes};
 ghost use Rattle.sequence.specs.Answers.{outcomeAnswer};
 ghost use Rattle.sequence.specs.Report.{filled};
 ghost use Rattle.lines.specs.Form.{isDigit, signed, limit};
-ghost use Rattle.lines.specs.Reading.{classOf, goes, byClass, meets, met, stateAfter, mayEnd, isWrong, inTerm, stepOf, foundIn};
+ghost use Rattle.lines.specs.Reading.{classOf, goes, meets, stateAfter, mayEnd, isWrong, inTerm, stepOf, foundIn};
 ghost use Rattle.lines.specs.Reply.{replyTo, readOf, readAnswer, queryIn};
 ghost use Rattle.lines.specs.Scan.{scannedOf, Kept, countEnded, arrayEnded};
 
@@ -103,26 +103,7 @@ fn goes(digit: State, comma: State, minus: State, blank: State, k: Class) -> Sta
     }
 }
 
-fn by_class(p: State, k: Class) -> State
-    ensures { λ r. ⌜ r ≡ byClass p k ⌝ }
-{
-    let no = State::Wrong;
-    match p {
-        State::Start => no,
-        State::AfterM => no,
-        State::AfterO => no,
-        State::AfterD => no,
-        State::BeforeModulus => goes(State::InModulus, no, no, no, k),
-        State::InModulus => goes(State::InModulus, no, no, no, k),
-        State::BeforeTerms => goes(State::InTerm, no, State::AfterMinus, State::BeforeTerms, k),
-        State::AfterMinus => goes(State::InTerm, no, no, no, k),
-        State::InTerm => goes(State::InTerm, State::AfterComma, no, State::AfterTerm, k),
-        State::AfterTerm => goes(no, State::AfterComma, no, State::AfterTerm, k),
-        State::AfterComma => goes(State::InTerm, no, State::AfterMinus, State::AfterComma, k),
-        State::Wrong => no,
-    }
-}
-
+// The fixed text and the colon are met as themselves; any other byte leads to q.
 fn meets(b: u8, x: u8, next: State, q: State) -> State
     ensures { λ r. ⌜ r ≡ meets b x next q ⌝ }
 {
@@ -132,32 +113,29 @@ fn meets(b: u8, x: u8, next: State, q: State) -> State
     q
 }
 
-// The fixed text and the colon are met as themselves; any other byte leads to q.
-fn met(p: State, b: u8, q: State) -> State
-    ensures { λ r. ⌜ r ≡ met p b q ⌝ }
-{
-    match p {
-        State::Start => meets(b, b'm', State::AfterM, q),
-        State::AfterM => meets(b, b'o', State::AfterO, q),
-        State::AfterO => meets(b, b'd', State::AfterD, q),
-        State::AfterD => meets(b, b' ', State::BeforeModulus, q),
-        State::BeforeModulus => q,
-        State::InModulus => meets(b, b':', State::BeforeTerms, q),
-        State::BeforeTerms => q,
-        State::AfterMinus => q,
-        State::InTerm => q,
-        State::AfterTerm => q,
-        State::AfterComma => q,
-        State::Wrong => q,
-    }
-}
-
+// The state after a byte.
 fn state_after(p: State, b: u8) -> State
     ensures { λ r. ⌜ r ≡ stateAfter p b ⌝ }
 {
+    let no = State::Wrong;
     let k = class_of(b);
-    let q = by_class(p, k);
-    met(p, b, q)
+    match p {
+        State::Start => meets(b, b'm', State::AfterM, no),
+        State::AfterM => meets(b, b'o', State::AfterO, no),
+        State::AfterO => meets(b, b'd', State::AfterD, no),
+        State::AfterD => meets(b, b' ', State::BeforeModulus, no),
+        State::BeforeModulus => goes(State::InModulus, no, no, no, k),
+        State::InModulus => {
+            let q = goes(State::InModulus, no, no, no, k);
+            meets(b, b':', State::BeforeTerms, q)
+        }
+        State::BeforeTerms => goes(State::InTerm, no, State::AfterMinus, State::BeforeTerms, k),
+        State::AfterMinus => goes(State::InTerm, no, no, no, k),
+        State::InTerm => goes(State::InTerm, State::AfterComma, no, State::AfterTerm, k),
+        State::AfterTerm => goes(no, State::AfterComma, no, State::AfterTerm, k),
+        State::AfterComma => goes(State::InTerm, no, State::AfterMinus, State::AfterComma, k),
+        State::Wrong => no,
+    }
 }
 
 // Whether a line may end here.
