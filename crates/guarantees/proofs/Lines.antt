@@ -1,6 +1,6 @@
 -- Typed lines: each reply has its reason and each reason its reply, and a line that is read becomes the query written by hand.
 -- Assumes nothing.
-use mathlib.Core.Path.{_≡_, refl, sym, ap, ap₂, _∙_, subst}
+use mathlib.Core.Path.{_≡_, refl, sym, ap, _∙_, subst}
 use mathlib.Core.Bool.{Bool, true, false}
 use mathlib.Core.List.{List, map}
 use Prim.Native.Nat.{ℕ, zero, _+_, _≤_, _<_}
@@ -10,8 +10,8 @@ use lib.IntN.{ℤ, pos}
 use lib.ListN.{length, getD}
 use lib.Seq.{ext-getD}
 use borrow.Author.Tests.{eqb-true, eqb-false, ltb-true, ltb-false, eq-eqb, ne-eqb, lt-ltb, le-ltb}
-use Rattle.lists.specs.Choice.{pick}
 use Rattle.lists.specs.Table.{at}
+use Rattle.lists.proofs.Choice.{picked, passed}
 use Rattle.lists.proofs.Search.{false-true}
 use Rattle.lists.proofs.Table.{at-past}
 use Rattle.residue.specs.Signed.{residueOf, Stands}
@@ -25,12 +25,11 @@ use Rattle.sequence.specs.Rules.{outside, queryOf}
 use Rattle.sequence.specs.Report.{filled}
 use Rattle.sequence.proofs.Laws.{refused-done, inside}
 use Rattle.sequence.proofs.Query.{query-modulus, query-count, query-term, query-passes}
-use Rattle.lines.specs.Form.{Line, text, modulusOf, valuesOf}
+use Rattle.lines.specs.Form.{Line, modulusOf, valuesOf}
 use Rattle.lines.specs.Reading.{Found, broken, past, read, foundIn}
 use Rattle.lines.specs.Reply.{replyTo, replyOf, readOf, queryIn}
 use Rattle.lines.proofs.Values.{line-read}
-use Rattle.lines.proofs.Told.{ReadAs, Tells, told, exactly, modulus-same, terms-same}
-use Rattle.lines.proofs.Scanning.{picked, passed}
+use Rattle.lines.proofs.Told.{Tells, told, exactly, modulus-same, terms-same}
 use Rattle.lines.proofs.Writing.{length-map, at-map}
 use Rattle.guarantees.specs.Lines.{Says, Inside, ByHand, Holds, exitOf, Reason, buffer, form, range, modulus, count, done, ReadsLine, TypedLines}
 

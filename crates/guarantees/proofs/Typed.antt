@@ -2,7 +2,6 @@
 -- Assumes nothing.
 use mathlib.Core.Path.{refl}
 use Rattle.lists.specs.Table.{tabulate}
-use Rattle.lists.specs.Search.{every}
 use Rattle.cells.specs.Cell.{bytesOf}
 use Rattle.sequence.specs.Answers.{firstOf}
 use Rattle.lines.specs.Reading.{readFrom}

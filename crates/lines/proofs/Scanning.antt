@@ -15,6 +15,7 @@ use lib.Seq.{drop-cons, getD-set-same, getD-set-other}
 use borrow.Author.Tests.{ltb-false}
 use Rattle.lists.specs.Choice.{pick}
 use Rattle.lists.specs.Table.{at, tabulate}
+use Rattle.lists.proofs.Choice.{picked, passed}
 use Rattle.lists.proofs.Search.{false-true, lt-or-le}
 use Rattle.lists.proofs.Table.{length-tabulate, getD-tabulate, is-tabulate}
 use Rattle.sequence.specs.Limits.{maxTerms}
@@ -23,12 +24,6 @@ use Rattle.lines.specs.Form.{isDigit, signed, limit}
 use Rattle.lines.specs.Reading.{stateAfter, mayEnd, isWrong, inTerm, stepOf, ended, termsAfter, Found, broken, past, read, readFrom, start, foundIn}
 use Rattle.lines.specs.Scan.{firstTerms, countEnded, arrayEnded, Kept}
 use Rattle.lines.proofs.Numbers.{over}
-
-pub picked : {A : Type 0} {t : Bool} (a b : A) → t ≡ true → pick t a b ≡ a
-picked a b h = ap (λ (t : Bool). pick t a b) h
-
-pub passed : {A : Type 0} {t : Bool} (a b : A) → t ≡ false → pick t a b ≡ b
-passed a b h = ap (λ (t : Bool). pick t a b) h
 
 -- ---- the first 128 terms
 

@@ -13,12 +13,12 @@ use Rattle.lines.specs.declared.Cursor.{Cursor}
 use Rattle.lines.specs.Form.{signed, limit}
 use Rattle.lines.specs.Reading.{stateAfter}
 
-pub limit-most : (s : Bool) → limit s ≤ 2147483648
+pub limit-most : (s : Bool) → limit s ≤ limit true
 limit-most true = omega arith
 limit-most false = omega arith
 
-pub pos-is : (n : ℕ) → n < 2147483648 → toZ w32 n ≡ pos n
-pos-is n h = toZ-pos w32 (let k : n < 2 ^ 31 = omega arith in k)
+pub pos-is : (n : ℕ) → n < 2 ^ 31 → toZ w32 n ≡ pos n
+pos-is n h = toZ-pos w32 h
 
 minus-one-less : (n : ℕ) → negsuc 0 -ℤ pos n ≡ negsuc n
 minus-one-less zero = refl
@@ -26,22 +26,22 @@ minus-one-less (suc n) =
     let e : 0 + n ≡ n = omega arith in
     ap (λ (k : ℕ). negsuc (suc k)) e
 
-neg-fits : (n : ℕ) → n < 2147483648 → SFits w32 (negℤ (pos n))
+neg-fits : (n : ℕ) → n < 2 ^ 31 → SFits w32 (negℤ (pos n))
 neg-fits zero h = record { sfits = omega arith }
 neg-fits (suc n) h = record { sfits = omega arith }
 
 -- 0 and -1 less n, as the machine finds them, fit
-pub from-zero : (n : ℕ) → n < 2147483648 → SFits w32 (pos 0 -ℤ toZ w32 n)
+pub from-zero : (n : ℕ) → n < 2 ^ 31 → SFits w32 (pos 0 -ℤ toZ w32 n)
 from-zero n h = subst (SFits w32) (sym (ap (λ (z : ℤ). pos 0 -ℤ z) (pos-is n h) ∙ +ℤ-idl (negℤ (pos n)))) (neg-fits n h)
 
-pub from-minus-one : (n : ℕ) → n < 2147483648 → SFits w32 (negsuc 0 -ℤ toZ w32 n)
+pub from-minus-one : (n : ℕ) → n < 2 ^ 31 → SFits w32 (negsuc 0 -ℤ toZ w32 n)
 from-minus-one n h = subst (SFits w32) (sym (ap (λ (z : ℤ). negsuc 0 -ℤ z) (pos-is n h) ∙ minus-one-less n)) (record { sfits = h })
 
 -- -1 less n is -(n + 1)
-pub less-is : (n : ℕ) → n < 2147483648 → toZ w32 (ofZ w32 (negsuc 0 -ℤ toZ w32 n)) ≡ negsuc n
+pub less-is : (n : ℕ) → n < 2 ^ 31 → toZ w32 (ofZ w32 (negsuc 0 -ℤ toZ w32 n)) ≡ negsuc n
 less-is n h = toZ-ofZ (from-minus-one n h) ∙ ap (λ (z : ℤ). negsuc 0 -ℤ z) (pos-is n h) ∙ minus-one-less n
 
-pub pos-fits : (n : ℕ) → n < 2147483648 → SFits w32 (pos n)
+pub pos-fits : (n : ℕ) → n < 2 ^ 31 → SFits w32 (pos n)
 pos-fits n h = record { sfits = omega arith }
 
 -- a term within its limit fits 32 bits

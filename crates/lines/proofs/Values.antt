@@ -9,8 +9,9 @@ use native.Mathlib.Omega.{arith}
 use lib.Dec.{leb}
 use lib.IntN.{ℤ}
 use borrow.Author.Tests.{leb-true, le-ltb, lt-ltb, le-leb, lt-leb}
-use Rattle.lists.specs.Choice.{pick, both}
+use Rattle.lists.specs.Choice.{both}
 use Rattle.lists.specs.Search.{every}
+use Rattle.lists.proofs.Choice.{picked, passed}
 use Rattle.lists.proofs.Search.{lt-or-le, both-left, both-right, both-true, every-head, every-tail}
 use Rattle.lines.specs.declared.State.{State}
 use Rattle.lines.specs.declared.State.the-variants.{BeforeModulus, InModulus, BeforeTerms, AfterMinus, InTerm, AfterTerm, AfterComma}
@@ -44,12 +45,6 @@ Ends false r x = Past r
 
 -- ---- one byte
 
-taken : {t : Bool} (a b : List ℤ) → t ≡ true → pick t a b ≡ a
-taken a b h = ap (λ (t : Bool). pick t a b) h
-
-left : {t : Bool} (a b : List ℤ) → t ≡ false → pick t a b ≡ b
-left a b h = ap (λ (t : Bool). pick t a b) h
-
 read-step : (c : Cursor) (ts : List ℤ) (b : ℕ) (w : List ℕ) (i : ℕ) → isWrong (stateAfter (c .state) b) ≡ false → over (stepOf c b) ≡ false
     → readFrom c ts (b ∷ w) i ≡ readFrom (stepOf c b) (termsAfter c b ts) w (suc i)
 unfolding readFrom
@@ -68,7 +63,7 @@ digit-go : (p q : State) (s : Bool) (v m : ℕ) (ts : List ℤ) (d : ℕ) (w : L
     → readFrom (cur p s v m) ts (d ∷ w) i ≡ readFrom (cur q s (10 * v + (d - 48)) m) ts w (suc i)
 digit-go p q s v m ts d w i h k f l =
     read-step (cur p s v m) ts d w i (ap isWrong k ∙ f) (ap over (step-digit p q s v m d h k) ∙ le-ltb _ _ l)
-    ∙ ap₂ (λ (c : Cursor) (us : List ℤ). readFrom c us w (suc i)) (step-digit p q s v m d h k) (taken ts _ h)
+    ∙ ap₂ (λ (c : Cursor) (us : List ℤ). readFrom c us w (suc i)) (step-digit p q s v m d h k) (picked ts _ h)
 
 -- ---- numbers
 
@@ -104,7 +99,7 @@ module _ (p : State) (s : Bool) (m : ℕ) (ts : List ℤ) (w : List ℕ) (keep :
       d : isDigit (n .first) ≡ true
       d = every-head isDigit (n .first) (n .rest) (n .digits)
 
-      least : (t : Bool) → 2147483647 ≤ limit t
+      least : (t : Bool) → limit false ≤ limit t
       least true = omega arith
       least false = omega arith
 
@@ -121,7 +116,7 @@ blanks-go p m ts (suc n) w i keep fine out =
     record {
       at = r .at;
       is = read-step (cur p false 0 m) ts 32 (blanks n ++ w) i (ap isWrong keep ∙ fine) refl
-          ∙ ap₂ (λ (q : State) (us : List ℤ). readFrom (cur q false 0 m) us (blanks n ++ w) (suc i)) keep (left _ ts out)
+          ∙ ap₂ (λ (q : State) (us : List ℤ). readFrom (cur q false 0 m) us (blanks n ++ w) (suc i)) keep (passed _ ts out)
           ∙ r .is;
     }
 
@@ -140,7 +135,7 @@ module _ (p : State) (o : Before p) (m : ℕ) (ts : List ℤ) (w : List ℕ) whe
   signed-go true n i =
       let e : readFrom (cur p false 0 m) ts (45 ∷ (numberText n ++ w)) i ≡ readFrom (cur AfterMinus true 0 m) ts (numberText n ++ w) (suc i) =
       read-step (cur p false 0 m) ts 45 (numberText n ++ w) i (ap isWrong (o .opens .minus)) refl
-      ∙ ap₂ (λ (q : State) (us : List ℤ). readFrom (cur q true 0 m) us (numberText n ++ w) (suc i)) (o .opens .minus) (left _ ts (o .out)) in
+      ∙ ap₂ (λ (q : State) (us : List ℤ). readFrom (cur q true 0 m) us (numberText n ++ w) (suc i)) (o .opens .minus) (passed _ ts (o .out)) in
       rw e (number-go InTerm true m ts w keep-term refl AfterMinus n (suc i) (λ b h. rw (digit-class b h)))
 
 -- its own text, up to the blanks behind it

@@ -210,7 +210,7 @@ fn wide(x: u8) -> u64
 
 // A number with one more digit.
 fn grown(size: u64, b: u8) -> u64
-    requires { ⌜ (size ≤ 2147483648) × (isDigit b ≡ true) ⌝ }
+    requires { ⌜ (size ≤ limit true) × (isDigit b ≡ true) ⌝ }
     ensures { λ r. ⌜ r ≡ 10 * size + (b - 48) ⌝ }
 {
     10 * size + (wide(b) - 48)
@@ -218,7 +218,7 @@ fn grown(size: u64, b: u8) -> u64
 
 // At the colon the number is the modulus.
 fn modulus_after(c: Cursor, b: u8) -> u32
-    requires { ⌜ c .size ≤ 2147483648 ⌝ }
+    requires { ⌜ c .size ≤ limit true ⌝ }
     ensures { λ r. ⌜ r ≡ pick (eqb b 58) (c .size) (c .modulus) ⌝ }
 {
     if b == b':' {
@@ -229,7 +229,7 @@ fn modulus_after(c: Cursor, b: u8) -> u32
 
 // One byte further. The number grows by a digit; any other byte ends it.
 fn advance(c: Cursor, b: u8) -> Cursor
-    requires { ⌜ c .size ≤ 2147483648 ⌝ }
+    requires { ⌜ c .size ≤ limit true ⌝ }
     ensures { λ r. ⌜ r ≡ stepOf c b ⌝ }
 {
     let state = c.state;

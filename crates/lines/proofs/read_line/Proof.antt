@@ -8,7 +8,7 @@ use Rattle.lines.specs.Reading.{foundIn}
 use Rattle.sequence.specs.Report.{filled}
 use Rattle.lines.specs.Reply.{replyOf, replyTo, readOf, queryIn}
 use Rattle.lines.proofs.Answers.{read-told}
-use Rattle.lines.proofs.Scanning.{picked, passed}
+use Rattle.lists.proofs.Choice.{picked, passed}
 use Rattle.lines.proofs.Writing.{scanned-terms, scanned-broken, scanned-past, length-first, same-query}
 use borrow.Author.Needs.{needs}
 use Rattle.lines.proofs.read_line.Statement.{statement}
