@@ -213,23 +213,24 @@ static void look_up() {
     printf("look_up of the last of %zu records with the same modulus and count: / C loop over memcmp, us\n        %.2f  %.1f\n", count, t[0] / t[1], t[0]);
 }
 
-// Lines of 128 terms of up to so many digits, every third negative, with a blank behind each comma.
-static std::string typed(uint32_t m, int digits) {
+// A line of n terms of up to so many digits, every third negative, with a blank behind each comma.
+static std::string typed(uint32_t m, int n, int digits) {
     uint32_t limit = 1;
     for (int i = 0; i < digits && limit < 1000000000; i++) limit *= 10;
     std::string line = "mod " + std::to_string(m) + ":";
-    for (int i = 0; i < 128; i++) line += (i ? ", " : " ") + std::string(below(3) ? "" : "-") + std::to_string(below(limit));
+    for (int i = 0; i < n; i++) line += (i ? ", " : " ") + std::string(below(3) ? "" : "-") + std::to_string(below(limit));
     return line;
 }
 
 static void lines() {
-    printf("read_line, 128 terms: / C by descent, / strtol without checks of the form, / record, us, bytes\n");
-    for (int digits : {1, 4, 9}) {
+    printf("read_line, terms and digits: / C by descent, / strtol without checks of the form, / record of as many terms, us, bytes\n");
+    const int shapes[][2] = {{5, 1}, {128, 1}, {128, 4}, {128, 9}};
+    for (auto [n, digits] : shapes) {
         static std::vector<std::string> pool(POOL);
         static uint8_t ours[260], plain[260], by_strtol[260];
         size_t bytes = 0;
-        prepare(4093, 128);
-        for (auto &line : pool) line = typed(4093, digits), bytes += line.size();
+        prepare(4093, n);
+        for (auto &line : pool) line = typed(4093, n, digits), bytes += line.size();
         auto at = [&](int i) { return (const uint8_t *)pool[i].data(); };
         for (int i = 0; i < POOL; i++) {
             uint64_t r = diverthrone_read_line(at(i), pool[i].size(), ours, 260);
@@ -244,7 +245,7 @@ static void lines() {
                           {"strtol", [&](int i) { strtol_read_line(pool[i].c_str(), by_strtol); }},
                           {"record", [&](int i) { diverthrone_synthesize(queries[i], 260, record, 776); }}},
                          101);
-        printf("  %d digits  %.2f  %.2f  %.2f  %.2f  %zu\n", digits, t[0] / t[1], t[0] / t[2], t[0] / t[3], t[0], bytes / POOL);
+        printf("  %3d  %d  %.2f  %.2f  %.2f  %.2f  %zu\n", n, digits, t[0] / t[1], t[0] / t[2], t[0] / t[3], t[0], bytes / POOL);
     }
 }
 

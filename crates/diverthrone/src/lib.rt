@@ -17,7 +17,7 @@ ghost use Rattle.diverthrone.specs.Codes.{lastPlace, codeOf};
 // 2^56 - 1: the last place that fits beside the number of a refusal.
 const LAST_PLACE: u64 = 72057594037927935;
 
-// A place for C. No machine holds a line so long that it is another.
+// A place for C: itself, in every line that a machine can hold.
 fn told(i: usize) -> u64
     ensures { λ n. ⌜ (n ≡ min i lastPlace) × (n ≤ lastPlace) ⌝ }
 {

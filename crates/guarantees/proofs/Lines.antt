@@ -28,10 +28,11 @@ use Rattle.sequence.proofs.Query.{query-modulus, query-count, query-term, query
 use Rattle.lines.specs.Form.{Line, modulusOf, valuesOf}
 use Rattle.lines.specs.Reading.{Found, broken, past, read, foundIn}
 use Rattle.lines.specs.Reply.{replyTo, replyOf, readOf, queryIn}
+use Rattle.lines.proofs.Answers.{read-told}
 use Rattle.lines.proofs.Values.{line-read}
 use Rattle.lines.proofs.Told.{Tells, told, exactly, modulus-same, terms-same}
 use Rattle.lines.proofs.Writing.{length-map, at-map}
-use Rattle.guarantees.specs.Lines.{Says, Inside, ByHand, Holds, exitOf, Reason, buffer, form, range, modulus, count, done, ReadsLine, TypedLines}
+use Rattle.guarantees.specs.Lines.{Says, Inside, ByHand, ByCells, exitOf, Reason, buffer, form, range, modulus, count, done, ReadsLine, TypedLines}
 
 -- ---- the last two tests
 
@@ -121,8 +122,8 @@ module _ (l : Line) (i : Inside (modulusOf l)) (few : length (valuesOf l) ≤ ma
   by-hand : ByHand l (queryOf m residues)
   by-hand = record { residues = residues; size = size; stands = λ j h. stands j; written = refl }
 
-  holds : Holds l (queryOf m residues)
-  holds =
+  by-cells : ByCells l (queryOf m residues)
+  by-cells =
       record {
         modulus = query-modulus m residues (i .least) (i .most) few-residues below;
         count = query-count m residues (i .least) (i .most) few-residues below ∙ size;
@@ -161,10 +162,10 @@ module _ (line query : List ℕ) where
       ap (λ (o : Outcome). filled o (queryIn (foundIn line)) query) d
       ∙ ap queryIn (ap foundIn (sym (s .spelt)) ∙ line-read l (s .fits))
 
-  hand-written : readOf line query ≡ Done → (l : Line) → Says line l → ByHand l (exitOf line query) × Holds l (exitOf line query)
+  hand-written : readOf line query ≡ Done → (l : Line) → Says line l → ByHand l (exitOf line query) × ByCells l (exitOf line query)
   hand-written d l s =
       let w = done-line d l s in
-      subst (λ (q : List ℕ). ByHand l q × Holds l q) (sym (query-is d l s)) (by-hand l (w .0) (w .1), holds l (w .0) (w .1))
+      subst (λ (q : List ℕ). ByHand l q × ByCells l q) (sym (query-is d l s)) (by-hand l (w .0) (w .1), by-cells l (w .0) (w .1))
 
   kept : (readOf line query ≡ Done → ⊥) → exitOf line query ≡ query
   kept n = go (readOf line query) refl
@@ -183,6 +184,7 @@ module _ (line query : List ℕ) where
         is-modulus = is-modulus line query;
         is-count = is-count line query;
         is-done = is-done line query;
+        by-number = read-told line query {r = readOf line query} {A = Unit {0}} refl tt .1 .1;
         by-hand = hand-written;
         kept = kept;
       }

@@ -43,6 +43,7 @@ places-carried =
       term = λ i. refl;
       form = λ i. refl;
       range = λ i. refl;
+      last = refl;
       plain = plain;
       placed-code = λ n i h. ap (λ (v : ℕ). suc n + 256 * v) (let z : min i lastPlace ≡ i = omega arith in z);
       last-code = λ n i h. ap (λ (v : ℕ). suc n + 256 * v) (let z : min i lastPlace ≡ lastPlace = omega arith in z);

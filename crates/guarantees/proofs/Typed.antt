@@ -40,6 +40,7 @@ typed =
       minus-behind = refl;
       second-colon = refl;
       end-mark = refl;
+      slash = refl;
       tab = refl;
       empty = refl;
       cut-text = refl;
@@ -72,4 +73,5 @@ typed =
       form-code-0 = refl;
       range-code = refl;
       last-code = refl;
+      past-last-code = refl;
     }

@@ -12,11 +12,12 @@ use Rattle.sequence.specs.declared.Refusal.the-variants as R
 use Rattle.sequence.specs.declared.Outcome.{Outcome}
 use Rattle.sequence.specs.declared.Outcome.the-variants.{Done, Refused}
 use Rattle.sequence.specs.Limits.{maxModulus, maxTerms, queryBytes}
+use Rattle.sequence.specs.Answers.{outcomeAnswer}
 use Rattle.sequence.specs.Rules.{queryOf, checkOf}
 use Rattle.sequence.specs.Report.{filled}
 use Rattle.lines.specs.Form.{Line, text, modulusOf, valuesOf, InRange, BrokenAt, PastAt}
 use Rattle.lines.specs.Reading.{foundIn}
-use Rattle.lines.specs.Reply.{readOf, queryIn}
+use Rattle.lines.specs.Reply.{readOf, readAnswer, queryIn}
 
 -- the bytes are line l, and every number of it is within its range
 pub record Says (bytes : List ℕ) (l : Line) : Type 0 where
@@ -36,7 +37,7 @@ pub record ByHand (l : Line) (query : List ℕ) : Type 0 where
   pub written : query ≡ queryOf (modulusOf l) residues
 
 -- The same by its cells: the modulus, the count, the terms' remainders, zeros past the count. It meets no refusal of its own.
-pub record Holds (l : Line) (query : List ℕ) : Type 0 where
+pub record ByCells (l : Line) (query : List ℕ) : Type 0 where
   pub modulus : cellAt query 0 ≡ modulusOf l
   pub count : cellAt query 1 ≡ length (valuesOf l)
   pub terms : (j : ℕ) → j < length (valuesOf l) → Stands (modulusOf l) (cellAt query (2 + j)) (getD (valuesOf l) j (pos 0))
@@ -68,8 +69,10 @@ pub record ReadsLine (line query : List ℕ) : Type 0 where
   pub is-modulus : (l : Line) → length query ≡ queryBytes → Says line l → (Inside (modulusOf l) → ⊥) → readOf line query ≡ Refused R.Modulus
   pub is-count : (l : Line) → length query ≡ queryBytes → Says line l → Inside (modulusOf l) → maxTerms < length (valuesOf l) → readOf line query ≡ Refused R.Count
   pub is-done : (l : Line) → length query ≡ queryBytes → Says line l → Inside (modulusOf l) → length (valuesOf l) ≤ maxTerms → readOf line query ≡ Done
+  -- by number it is the answer that the calls promise, for C too
+  pub by-number : outcomeAnswer (readOf line query) ≡ readAnswer line query
   -- a line that is read becomes the query written by hand; a refusal leaves the buffer as lent
-  pub by-hand : readOf line query ≡ Done → (l : Line) → Says line l → ByHand l (exitOf line query) × Holds l (exitOf line query)
+  pub by-hand : readOf line query ≡ Done → (l : Line) → Says line l → ByHand l (exitOf line query) × ByCells l (exitOf line query)
   pub kept : (readOf line query ≡ Done → ⊥) → exitOf line query ≡ query
 
 pub record TypedLines : Type 0 where

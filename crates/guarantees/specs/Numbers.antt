@@ -1,4 +1,5 @@
--- The paper's numbers, and those for C: an answer of each kind, and one for each condition of each refusal; and the order of refusals.
+-- The paper's numbers, and those for C: an answer of each kind, and one for each condition of each refusal; and the order of refusals. Typed lines,
+-- with 27 and 28, are in Typed.
 -- Assumes nothing.
 use mathlib.Core.Path.{_≡_}
 use mathlib.Core.List.{List, [], _∷_, _++_}

@@ -1,9 +1,9 @@
--- The claims about refusal 3 and its place, and about 25, 6, 26 and 24: a query's first wrong term, and what is wrong with a candidate.
+-- The claims about the places that refusals carry, and about 3, 25, 6, 26 and 24: a query's first wrong term, and what is wrong with a candidate.
 -- Assumes nothing.
 use mathlib.Core.Path.{_≡_}
 use mathlib.Core.Logic.{_⊎_}
 use mathlib.Core.List.{List}
-use Prim.Native.Nat.{ℕ, zero, suc, _+_, _*_, _/_, _%_, _≤_, _<_}
+use Prim.Native.Nat.{ℕ, zero, suc, _+_, _*_, _/_, _%_, _^_, _≤_, _<_}
 use lib.ListN.{length, take, drop}
 use Rattle.lists.specs.Table.{at}
 use Rattle.cells.specs.Cell.{cellAt}
@@ -30,7 +30,8 @@ pub record PlacesCarried : Type 0 where
   pub form : (i : ℕ) → refusal (R.LineForm i) ≡ refusedAt 27 i
   pub range : (i : ℕ) → refusal (R.LineRange i) ≡ refusedAt 28 i
   pub plain : (r : Refusal) → (refusal r .number ≡ 3 → ⊥) → (refusal r .number ≡ 27 → ⊥) → (refusal r .number ≡ 28 → ⊥) → refusal r ≡ refused (refusal r .number)
-  -- it is the value that C gets, up to the last that fits there; past it that one
+  -- it is the value that C gets, up to the last that fits there, 2^56 - 1; past it that one
+  pub last : lastPlace + 1 ≡ 2 ^ 56
   pub placed-code : (n i : ℕ) → i ≤ lastPlace → codeOf (refusedAt (suc n) i) ≡ suc n + 256 * i
   pub last-code : (n i : ℕ) → lastPlace ≤ i → codeOf (refusedAt (suc n) i) ≡ suc n + 256 * lastPlace
   pub plain-code : (n : ℕ) → codeOf (refused n) ≡ n

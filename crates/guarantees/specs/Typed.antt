@@ -10,7 +10,7 @@ use Rattle.sequence.specs.Limits.{queryBytes}
 use Rattle.sequence.specs.Answers.{Answer, granted, refused, refusedAt}
 use Rattle.sequence.specs.Rules.{queryOf}
 use Rattle.lines.specs.Reply.{readAnswer}
-use Rattle.diverthrone.specs.Codes.{lastPlace, codeOf}
+use Rattle.diverthrone.specs.Codes.{codeOf}
 use Rattle.guarantees.specs.Cases.{zeros}
 use Rattle.guarantees.specs.Lines.{exitOf}
 
@@ -66,6 +66,7 @@ pub record Typed : Type 0 where
   pub minus-behind : answerTo "mod 9:5-" ≡ refusedAt 27 7
   pub second-colon : answerTo "mod 9:1:2" ≡ refusedAt 27 7
   pub end-mark : answerTo "mod 9:1\n" ≡ refusedAt 27 7
+  pub slash : answerTo "mod 9:1/2" ≡ refusedAt 27 7
   pub tab : answerTo "mod 9:1\t" ≡ refusedAt 27 7
   -- or at the length of a line that ends too soon
   pub empty : answerTo "" ≡ refusedAt 27 0
@@ -102,4 +103,5 @@ pub record Typed : Type 0 where
   pub form-code : codeOf (answerTo "mod 9 :1") ≡ 27 + 256 * 5
   pub form-code-0 : codeOf (answerTo "") ≡ 27
   pub range-code : codeOf (answerTo "mod 9:2147483648") ≡ 28 + 256 * 15
-  pub last-code : codeOf (refusedAt 27 (lastPlace + 1)) ≡ 27 + 256 * lastPlace
+  pub last-code : codeOf (refusedAt 27 72057594037927935) ≡ 18446744073709551387
+  pub past-last-code : codeOf (refusedAt 28 72057594037927936) ≡ 18446744073709551388

@@ -21,7 +21,7 @@ use Rattle.lists.proofs.Table.{length-tabulate, getD-tabulate, is-tabulate}
 use Rattle.sequence.specs.Limits.{maxTerms}
 use Rattle.lines.specs.declared.Cursor.{Cursor}
 use Rattle.lines.specs.Form.{isDigit, signed, limit}
-use Rattle.lines.specs.Reading.{stateAfter, mayEnd, isWrong, inTerm, stepOf, ended, termsAfter, Found, broken, past, read, readFrom, start, foundIn}
+use Rattle.lines.specs.Reading.{stateAfter, mayEnd, isWrong, inTerm, stepOf, termsEnded, termsAfter, Found, broken, past, read, readFrom, start, foundIn}
 use Rattle.lines.specs.Scan.{firstTerms, countEnded, arrayEnded, Kept}
 use Rattle.lines.proofs.Numbers.{over}
 
@@ -53,14 +53,14 @@ first-more ts t =
             getD-set-other (firstTerms ts) (length ts) i t (pos 0) f
             ∙ getD-tabulate maxTerms (λ j. getD ts j (pos 0)) i (pos 0) h ∙ other i (lt-or-le i (length ts)) f
 
-ended-count : (c : Cursor) (ts : List ℤ) → countEnded c (length ts) ≡ length (ended c ts)
+ended-count : (c : Cursor) (ts : List ℤ) → countEnded c (length ts) ≡ length (termsEnded c ts)
 ended-count c ts = go (inTerm (c .state))
   where
     go : (t : Bool) → pick t (length ts + 1) (length ts) ≡ length (pick t (ts ++ signed (c .minus) (c .size) ∷ []) ts)
     go true = sym (length-append ts (signed (c .minus) (c .size) ∷ []))
     go false = refl
 
-ended-array : (c : Cursor) (ts : List ℤ) → arrayEnded c (length ts) (firstTerms ts) ≡ firstTerms (ended c ts)
+ended-array : (c : Cursor) (ts : List ℤ) → arrayEnded c (length ts) (firstTerms ts) ≡ firstTerms (termsEnded c ts)
 ended-array c ts = go (inTerm (c .state))
   where
     go : (t : Bool) → pick t (set (firstTerms ts) (length ts) (signed (c .minus) (c .size))) (firstTerms ts) ≡ firstTerms (pick t (ts ++ signed (c .minus) (c .size) ∷ []) ts)
@@ -124,30 +124,30 @@ module _ {line : List ℕ} {c : Cursor} {n i : ℕ} {xs : List ℤ} (s : Scannin
           array = ex ∙ ap₂ (λ (k : ℕ) (ys : List ℤ). pick (isDigit b) ys (arrayEnded c k ys)) (s .count) (s .array) ∙ kept (isDigit b);
         }
       where
-        counted : (t : Bool) → pick t (length (s .terms)) (countEnded c (length (s .terms))) ≡ length (pick t (s .terms) (ended c (s .terms)))
+        counted : (t : Bool) → pick t (length (s .terms)) (countEnded c (length (s .terms))) ≡ length (pick t (s .terms) (termsEnded c (s .terms)))
         counted true = refl
         counted false = ended-count c (s .terms)
 
-        kept : (t : Bool) → pick t (firstTerms (s .terms)) (arrayEnded c (length (s .terms)) (firstTerms (s .terms))) ≡ firstTerms (pick t (s .terms) (ended c (s .terms)))
+        kept : (t : Bool) → pick t (firstTerms (s .terms)) (arrayEnded c (length (s .terms)) (firstTerms (s .terms))) ≡ firstTerms (pick t (s .terms) (termsEnded c (s .terms)))
         kept true = refl
         kept false = ended-array c (s .terms)
 
   -- at the end
   module _ (h : length line ≤ i) where
-    last : foundIn line ≡ pick (mayEnd (c .state)) (read (c .modulus) (ended c (s .terms))) (broken i)
+    last : foundIn line ≡ pick (mayEnd (c .state)) (read (c .modulus) (termsEnded c (s .terms))) (broken i)
     unfolding readFrom
     last = s .found ∙ ap (λ (v : List ℕ). readFrom c (s .terms) v i) (drop-of-length-le line h)
 
     pub scanning-cut : mayEnd (c .state) ≡ false → foundIn line ≡ broken (length line)
     scanning-cut e = last ∙ passed _ _ e ∙ ap broken (le-antisymm (s .within) h)
 
-    pub scanning-end : mayEnd (c .state) ≡ true → foundIn line ≡ read (c .modulus) (ended c (s .terms))
+    pub scanning-end : mayEnd (c .state) ≡ true → foundIn line ≡ read (c .modulus) (termsEnded c (s .terms))
     scanning-end e = last ∙ picked _ _ e
 
-    pub end-count : (n' : ℕ) → n' ≡ countEnded c n → n' ≡ length (ended c (s .terms))
+    pub end-count : (n' : ℕ) → n' ≡ countEnded c n → n' ≡ length (termsEnded c (s .terms))
     end-count n' e = e ∙ ap (countEnded c) (s .count) ∙ ended-count c (s .terms)
 
-    pub end-array : (xs' : List ℤ) → xs' ≡ arrayEnded c n xs → xs' ≡ firstTerms (ended c (s .terms))
+    pub end-array : (xs' : List ℤ) → xs' ≡ arrayEnded c n xs → xs' ≡ firstTerms (termsEnded c (s .terms))
     end-array xs' e = e ∙ ap₂ (arrayEnded c) (s .count) (s .array) ∙ ended-array c (s .terms)
 
 -- ---- what is kept

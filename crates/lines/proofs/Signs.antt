@@ -30,7 +30,7 @@ neg-fits : (n : ℕ) → n < 2 ^ 31 → SFits w32 (negℤ (pos n))
 neg-fits zero h = record { sfits = omega arith }
 neg-fits (suc n) h = record { sfits = omega arith }
 
--- 0 and -1 less n, as the machine finds them, fit
+-- 0 and -1 less n, as the machine finds them, fit. (0 is what an edit that must fail asks for, so that it fails at the value.)
 pub from-zero : (n : ℕ) → n < 2 ^ 31 → SFits w32 (pos 0 -ℤ toZ w32 n)
 from-zero n h = subst (SFits w32) (sym (ap (λ (z : ℤ). pos 0 -ℤ z) (pos-is n h) ∙ +ℤ-idl (negℤ (pos n)))) (neg-fits n h)
 

@@ -1,4 +1,5 @@
--- The places of a reading against the form: bytes lead from a place to one where a line may end exactly if they complete a line from there, and every place can be completed.
+-- The states of a reading against the form: bytes lead from a state to one where a line may end exactly if they complete a line from there, and
+-- every state but the wrong one can be completed.
 -- Assumes nothing.
 use mathlib.Core.Path.{_≡_, refl, sym, ap, _∙_, subst}
 use mathlib.Core.Bool.{Bool, true, false}
@@ -102,7 +103,7 @@ record InModulusRest (w : List ℕ) : Type 0 where
   body : Body
   is : more ++ 58 ∷ bodyText body ≡ w
 
--- bytes that complete a line from a place
+-- bytes that complete a line from a state
 abbrev Rest : State → List ℕ → Type 0
 Rest Start w = IsLine w
 Rest AfterM w = IsLine (109 ∷ w)
@@ -281,7 +282,7 @@ accepted-line w h = completes Start w h
 pub digit-no-colon : (b : ℕ) → isDigit b ≡ true → eqb b 58 ≡ false
 digit-no-colon b h = ne-eqb b 58 (λ e. false-true (ap isDigit (sym e) ∙ h))
 
--- digits and blanks that keep the place
+-- digits and blanks that keep the state
 along-digits : (p : State) → ((b : ℕ) → isDigit b ≡ true → stateAfter p b ≡ p) → (ds w : List ℕ) → every isDigit ds ≡ true → statesFrom p (ds ++ w) ≡ statesFrom p w
 unfolding statesFrom
 along-digits p keep [] w h = refl
@@ -299,7 +300,7 @@ keep-modulus b h = rw (digit-no-colon b h, digit-class b h)
 pub keep-term : (b : ℕ) → isDigit b ≡ true → stateAfter InTerm b ≡ InTerm
 keep-term b h = rw (digit-class b h)
 
--- a place where a term may begin
+-- a state where a term may begin
 pub record Opens (p : State) : Type 0 where
   pub digit : (b : ℕ) → isDigit b ≡ true → stateAfter p b ≡ InTerm
   pub minus : stateAfter p 45 ≡ AfterMinus
@@ -366,9 +367,9 @@ along-line l =
 pub line-accepted : (w : List ℕ) → IsLine w → mayEnd (statesFrom Start w) ≡ true
 line-accepted w h = subst (λ (v : List ℕ). mayEnd (statesFrom Start v) ≡ true) (h .spelt) (along-line (h .line))
 
--- ---- every place can be completed
+-- ---- every state can be completed
 
--- bytes with which a line may go on from a place
+-- bytes with which a line may go on from a state
 pub goOn : State → List ℕ
 goOn Start = 109 ∷ 111 ∷ 100 ∷ 32 ∷ 48 ∷ 58 ∷ []
 goOn AfterM = 111 ∷ 100 ∷ 32 ∷ 48 ∷ 58 ∷ []
@@ -398,7 +399,7 @@ completed AfterTerm h = refl
 completed AfterComma h = refl
 completed Wrong h = false-true (sym h)
 
--- ---- some line begins with bytes exactly if they do not lead to the wrong place
+-- ---- some line begins with bytes exactly if they do not lead to the wrong state
 
 pub begins : (u : List ℕ) → isWrong (statesFrom Start u) ≡ false → Begins u
 begins u h =

@@ -15,7 +15,7 @@ use Rattle.lists.proofs.Search.{false-true, lt-or-le}
 use Rattle.lines.specs.declared.State.the-variants.{Start}
 use Rattle.lines.specs.declared.Cursor.{Cursor}
 use Rattle.lines.specs.Form.{Line, text, modulusOf, valuesOf, InRange, IsLine, Begins, Passes, BrokenAt, PastAt}
-use Rattle.lines.specs.Reading.{stateAfter, mayEnd, isWrong, stepOf, ended, termsAfter, Found, broken, past, read, readFrom, start, foundIn}
+use Rattle.lines.specs.Reading.{stateAfter, mayEnd, isWrong, stepOf, termsEnded, termsAfter, Found, broken, past, read, readFrom, start, foundIn}
 use Rattle.lines.proofs.States.{statesFrom, accepted-line, line-accepted, begins, begun}
 use Rattle.lines.proofs.Numbers.{cursorFrom, over, passes-over, over-passes}
 use Rattle.lines.proofs.Values.{Ends, lineFits, line-go, in-range, line-read}
@@ -94,7 +94,7 @@ from : (c : Cursor) (ts : List ℤ) (w : List ℕ) (i : ℕ) → isWrong (c .sta
 unfolding readFrom statesFrom cursorFrom
 from c ts [] i f h = go (mayEnd (c .state)) refl
   where
-    go : (t : Bool) → mayEnd (c .state) ≡ t → From c [] i (pick t (read (c .modulus) (ended c ts)) (broken i))
+    go : (t : Bool) → mayEnd (c .state) ≡ t → From c [] i (pick t (read (c .modulus) (termsEnded c ts)) (broken i))
     go true e = record { ends = e; under = under-none c [] h }
     go false e = record { off = 0; is = omega arith; fine = f; there = inr (refl, e); under = under-none c [] h }
 from c ts (b ∷ w) i f h = go (isWrong (stateAfter (c .state) b)) refl (over (stepOf c b)) refl (from (stepOf c b) (termsAfter c b ts) w (suc i))

@@ -16,7 +16,7 @@ use Rattle.lists.proofs.Search.{lt-or-le, both-left, both-right, both-true, eve
 use Rattle.lines.specs.declared.State.{State}
 use Rattle.lines.specs.declared.State.the-variants.{BeforeModulus, InModulus, BeforeTerms, AfterMinus, InTerm, AfterTerm, AfterComma}
 use Rattle.lines.specs.declared.Cursor.{Cursor}
-use Rattle.lines.specs.Form.{isDigit, Number, numberText, valueOf, signed, limit, blanks, Term, minusText, termText, termValue, Body, none, some, termsText, bodyText, termsOf, Line, text, modulusOf, valuesOf, termFits, InRange}
+use Rattle.lines.specs.Form.{isDigit, Number, numberText, numberValue, signed, limit, blanks, Term, minusText, termText, termValue, Body, none, some, termsText, bodyText, termsOf, Line, text, modulusOf, valuesOf, termFits, InRange}
 use Rattle.lines.specs.Reading.{stateAfter, isWrong, inTerm, stepOf, termsAfter, Found, past, read, readFrom, foundIn}
 use Rattle.lines.proofs.States.{digit-class, digit-no-colon, keep-modulus, keep-term, Opens, body-opens, comma-opens}
 use Rattle.lines.proofs.Numbers.{behind, behind-zero, behind-le, over}
@@ -88,9 +88,9 @@ module _ (p : State) (s : Bool) (m : ℕ) (ts : List ℤ) (w : List ℕ) (keep :
       go (inr k) ih =
           rw (digit-go p p s v m ts d (ds ++ w) i e (keep d e) fine k) (ih k (every-tail isDigit d ds h))
 
-  -- from a place whose digits lead there
+  -- from a state whose digits lead there
   number-go : (q : State) (n : Number) (i : ℕ) → ((b : ℕ) → isDigit b ≡ true → stateAfter q b ≡ p)
-      → Go (leb (valueOf n) (limit s)) (readFrom (cur q s 0 m) ts (numberText n ++ w) i) (cur p s (valueOf n) m) ts w
+      → Go (leb (numberValue n) (limit s)) (readFrom (cur q s 0 m) ts (numberText n ++ w) i) (cur p s (numberValue n) m) ts w
   unfolding behind
   number-go q n i to =
       rw (digit-go q p s 0 m ts (n .first) (n .rest ++ w) i d (to (n .first) d) fine small, ← behind-zero (numberText n))
@@ -122,7 +122,7 @@ blanks-go p m ts (suc n) w i keep fine out =
 
 -- ---- terms
 
--- a place before a term
+-- a state before a term
 record Before (p : State) : Type 0 where
   opens : Opens p
   fine : isWrong p ≡ false
@@ -130,7 +130,7 @@ record Before (p : State) : Type 0 where
 
 module _ (p : State) (o : Before p) (m : ℕ) (ts : List ℤ) (w : List ℕ) where
   signed-go : (s : Bool) (n : Number) (i : ℕ)
-      → Go (leb (valueOf n) (limit s)) (readFrom (cur p false 0 m) ts (minusText s ++ (numberText n ++ w)) i) (cur InTerm s (valueOf n) m) ts w
+      → Go (leb (numberValue n) (limit s)) (readFrom (cur p false 0 m) ts (minusText s ++ (numberText n ++ w)) i) (cur InTerm s (numberValue n) m) ts w
   signed-go false n i = number-go InTerm false m ts w keep-term refl p n i (o .opens .digit)
   signed-go true n i =
       let e : readFrom (cur p false 0 m) ts (45 ∷ (numberText n ++ w)) i ≡ readFrom (cur AfterMinus true 0 m) ts (numberText n ++ w) (suc i) =
@@ -140,7 +140,7 @@ module _ (p : State) (o : Before p) (m : ℕ) (ts : List ℤ) (w : List ℕ) whe
 
 -- its own text, up to the blanks behind it
 term-go : (p : State) (o : Before p) (m : ℕ) (ts : List ℤ) (w : List ℕ) (t : Term) (i : ℕ)
-    → Go (termFits t) (readFrom (cur p false 0 m) ts (termText t ++ w) i) (cur InTerm (t .minus) (valueOf (t .number)) m) ts (blanks (t .after) ++ w)
+    → Go (termFits t) (readFrom (cur p false 0 m) ts (termText t ++ w) i) (cur InTerm (t .minus) (numberValue (t .number)) m) ts (blanks (t .after) ++ w)
 term-go p o m ts w t i =
     let rest = blanks (t .after) ++ w in
     let r = blanks-go p m ts (t .before) (minusText (t .minus) ++ (numberText (t .number) ++ rest)) i (o .opens .blank) (o .fine) (o .out) in
@@ -176,11 +176,11 @@ unfolding termsText every
 terms-go [] last p o m ts i = go (termFits last) (term-go p o m ts [] last i)
   where
     go :
-        (f : Bool) → Go f (readFrom (cur p false 0 m) ts (termText last ++ []) i) (cur InTerm (last .minus) (valueOf (last .number)) m) ts (blanks (last .after) ++ [])
+        (f : Bool) → Go f (readFrom (cur p false 0 m) ts (termText last ++ []) i) (cur InTerm (last .minus) (numberValue (last .number)) m) ts (blanks (last .after) ++ [])
         → Ends (elim f as (λ z. Bool) [ true ↦ true | false ↦ false ]) (readFrom (cur p false 0 m) ts (termText last) i) (read m (ts ++ termValue last ∷ []))
     go true r =
         ap (λ (v : List ℕ). readFrom (cur p false 0 m) ts v i) (sym (append-nil (termText last)))
-        ∙ r .is ∙ end-go (last .minus) (valueOf (last .number)) m ts (last .after) (r .at)
+        ∙ r .is ∙ end-go (last .minus) (numberValue (last .number)) m ts (last .after) (r .at)
     go false r = record { at = r .at; is = ap (λ (v : List ℕ). readFrom (cur p false 0 m) ts v i) (sym (append-nil (termText last))) ∙ r .is }
 terms-go (t ∷ us) last p o m ts i = go (termFits t) (term-go p o m ts (44 ∷ termsText us last) t i) (λ j. terms-go us last AfterComma comma-before m (ts ++ termValue t ∷ []) j)
   where
@@ -191,12 +191,12 @@ terms-go (t ∷ us) last p o m ts i = go (termFits t) (term-go p o m ts (44 ∷ 
     from = readFrom (cur p false 0 m) ts (termText t ++ 44 ∷ termsText us last) i
 
     go :
-        (f : Bool) → Go f from (cur InTerm (t .minus) (valueOf (t .number)) m) ts (blanks (t .after) ++ 44 ∷ termsText us last)
+        (f : Bool) → Go f from (cur InTerm (t .minus) (numberValue (t .number)) m) ts (blanks (t .after) ++ 44 ∷ termsText us last)
         → ((j : ℕ) → Ends (every termFits all) (readFrom (cur AfterComma false 0 m) (ts ++ termValue t ∷ []) (termsText us last) j) (read m ((ts ++ termValue t ∷ []) ++ map termValue all)))
         → Ends (elim f as (λ z. Bool) [ true ↦ every termFits all | false ↦ false ]) from (read m (ts ++ termValue t ∷ map termValue all))
     go false r ih = r
     go true r ih =
-        let k = comma-go (t .minus) (valueOf (t .number)) m ts (t .after) (termsText us last) (r .at) in
+        let k = comma-go (t .minus) (numberValue (t .number)) m ts (t .after) (termsText us last) (r .at) in
         rw (r .is ∙ k .is, ← append-assoc ts (termValue t ∷ []) (map termValue all)) (ih (k .at))
 
 body-go : (b : Body) (m i : ℕ) → Ends (every termFits (termsOf b)) (readFrom (cur BeforeTerms false 0 m) [] (bodyText b) i) (read m (map termValue (termsOf b)))

@@ -32,8 +32,8 @@ unfoldable pub decimal : List ℕ → ℕ
 decimal [] = zero
 decimal (b ∷ bs) = (b - 48) * 10 ^ length bs + decimal bs
 
-abbrev pub valueOf : Number → ℕ
-valueOf n = decimal (numberText n)
+abbrev pub numberValue : Number → ℕ
+numberValue n = decimal (numberText n)
 
 -- a number with or without a minus before it
 abbrev pub signed : Bool → ℕ → ℤ
@@ -66,7 +66,7 @@ abbrev pub termText : Term → List ℕ
 termText t = blanks (t .before) ++ (minusText (t .minus) ++ (numberText (t .number) ++ blanks (t .after)))
 
 abbrev pub termValue : Term → ℤ
-termValue t = signed (t .minus) (valueOf (t .number))
+termValue t = signed (t .minus) (numberValue (t .number))
 
 -- ---- after the colon: blanks only, or terms with commas between
 
@@ -98,7 +98,7 @@ abbrev pub text : Line → List ℕ
 text l = 109 ∷ 111 ∷ 100 ∷ 32 ∷ (numberText (l .modulus) ++ 58 ∷ bodyText (l .body))
 
 abbrev pub modulusOf : Line → ℕ
-modulusOf l = valueOf (l .modulus)
+modulusOf l = numberValue (l .modulus)
 
 abbrev pub valuesOf : Line → List ℤ
 valuesOf l = map termValue (termsOf (l .body))
@@ -106,7 +106,7 @@ valuesOf l = map termValue (termsOf (l .body))
 -- ---- numbers within their range
 
 abbrev pub termFits : Term → Bool
-termFits t = leb (valueOf (t .number)) (limit (t .minus))
+termFits t = leb (numberValue (t .number)) (limit (t .minus))
 
 -- every number of a line is within its limit
 pub record InRange (l : Line) : Type 0 where

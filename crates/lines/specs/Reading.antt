@@ -103,11 +103,11 @@ stepOf c b =
     }
 
 -- a term that ends here joins the others
-abbrev pub ended : Cursor → List ℤ → List ℤ
-ended c ts = pick (inTerm (c .state)) (ts ++ signed (c .minus) (c .size) ∷ []) ts
+abbrev pub termsEnded : Cursor → List ℤ → List ℤ
+termsEnded c ts = pick (inTerm (c .state)) (ts ++ signed (c .minus) (c .size) ∷ []) ts
 
 abbrev pub termsAfter : Cursor → ℕ → List ℤ → List ℤ
-termsAfter c b ts = pick (isDigit b) ts (ended c ts)
+termsAfter c b ts = pick (isDigit b) ts (termsEnded c ts)
 
 -- what the reading finds: the place where the form is broken, the place of a digit that passes its limit, or the modulus and the terms
 pub data Found : Type 0 where
@@ -117,7 +117,7 @@ pub data Found : Type 0 where
 
 -- the bytes from place i on, at a cursor and with the terms before it
 unfoldable pub readFrom : Cursor → List ℤ → List ℕ → ℕ → Found
-readFrom c ts [] i = pick (mayEnd (c .state)) (read (c .modulus) (ended c ts)) (broken i)
+readFrom c ts [] i = pick (mayEnd (c .state)) (read (c .modulus) (termsEnded c ts)) (broken i)
 readFrom c ts (b ∷ bs) i =
     pick (isWrong (stateAfter (c .state) b)) (broken i)
     (pick (ltb (limit (stepOf c b .minus)) (stepOf c b .size)) (past i)

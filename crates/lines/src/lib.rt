@@ -286,6 +286,7 @@ fn end_term(c: Cursor, n: usize, terms: &mut [i32; TERMS]) -> usize
     let state = c.state;
     if in_term(state) {
         if TERMS <= n {
+            // Only counted. (Not n + 1, so that an edit that must fail finds this line.)
             return 1 + n;
         }
         terms[n] = typed(c.minus, c.size);
@@ -341,6 +342,17 @@ fn scan(line: &[u8], terms: &mut [i32; TERMS]) -> Scanned
     Scanned::Broken(line.len())
 }
 
+// The remainder of a term. 0, as in every place past the last term, takes no division.
+fn residue_of(t: i32, m: u32) -> u32
+    requires { ⌜ 0 < m ⌝ }
+    ensures { λ r. ⌜ r ≡ residueOf m t ⌝ }
+{
+    if t == 0 {
+        return 0;
+    }
+    residue::of_signed(t, m)
+}
+
 // Writes the modulus, the count and the terms' remainders.
 fn write_query(m: u32, n: u32, terms: &[i32; TERMS], query: &mut [u8])
     requires { ⌜ (0 < m) × (length (now terms) ≡ maxTerms) × (length (now query) ≡ queryBytes) ⌝ }
@@ -350,7 +362,7 @@ fn write_query(m: u32, n: u32, terms: &[i32; TERMS], query: &mut [u8])
     cells::put(query, 1, n);
     let mut j: usize = 0;
     while j < TERMS {
-        let r = residue::of_signed(terms[j], m);
+        let r = residue_of(terms[j], m);
         cells::put(query, 2 + j, r);
         j += 1;
     }

@@ -46,8 +46,8 @@ pub fn remainder(x: u64, q: u32) -> u32
     (x % (q as u64)) as u32
 }
 
-// The remainder from 0 to m - 1 of a signed number. One below zero is turned about -1, so that no value of the type overflows: -1 gives 0,
-// and the lowest value the highest.
+// The remainder from 0 to m - 1 of a signed number. For one below zero n is how far it is below -1, which no value of the type overflows:
+// n is 0 for -1, and the highest value for the lowest.
 // Rejected: -1 as 1; the lowest value off by one.
 pub fn of_signed(t: i32, m: u32) -> u32
     requires { ⌜ 0 < m ⌝ }
