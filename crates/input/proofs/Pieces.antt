@@ -47,6 +47,29 @@ rest-part s chunk h = go (ltb (s .from) (s .end)) refl
         let none : 0 ≡ s .end - s .from = omega (arith, ltb-false (s .from) (s .end) e) in
         ap (λ (m : ℕ). take m (drop (s .from) chunk)) none
 
+-- ---- what a read gave
+
+abbrev pub Fresh : Source → List ℕ → Type 0
+Fresh s chunk = (s .from ≡ 0) × (s .end ≤ length chunk) × (s .open ≡ ltb 0 (s .end))
+
+pub fresh-rest : (s : Source) (chunk : List ℕ) → Fresh s chunk → restOf s chunk ≡ take (s .end) chunk
+fresh-rest s chunk f =
+    let size : s .end - s .from ≡ s .end = omega (arith, f .0) in
+    rest-part s chunk (f .1) ∙ ap₂ (λ (n k : ℕ). take n (drop k chunk)) size (f .0)
+
+-- where it is open and has no line feed, the line grows
+pub fresh-grows : (s : Source) (chunk : List ℕ) → Fresh s chunk → s .open ≡ true → isMarked (restOf s chunk) ≡ false → 0 < length (pieceOf (restOf s chunk))
+fresh-grows s chunk f o e =
+    let size : length (restOf s chunk) ≡ s .end = ap length (fresh-rest s chunk f) ∙ length-take-le (s .end) chunk (f .1) in
+    omega (arith, ltb-true 0 (s .end) (sym (f .2) ∙ o), size, ltb-false (markIn (restOf s chunk)) (length (restOf s chunk)) e, mark-size (restOf s chunk) (markIn (restOf s chunk)) refl)
+
+pub unmarked-left : (xs : List ℕ) → isMarked xs ≡ false → leftOf xs ≡ []
+unmarked-left xs e =
+    let past : length xs ≤ markIn xs + 1 = omega (arith, ltb-false (markIn xs) (length xs) e) in
+    drop-of-length-le xs past
+
+-- ---- whether there is some
+
 pub has-some : (s : Source) (n : ℕ) → has s n ≡ true → (s .from < s .end) × (s .end ≤ n)
 has-some s n e = (ltb-true _ _ (both-left _ _ e), leb-true _ _ (both-right (ltb (s .from) (s .end)) _ e))
 

@@ -101,6 +101,10 @@ module _ (buffer : List ℕ) (n : ℕ) (marked : Bool) (xs : List ℕ) (h : Hold
     pub told-line : r ≤ longest → Line r ≡ takenOf xs marked
     told-line l = ap Line whole ∙ chosen xs marked (ended e) (le-ltb longest (lengthOf xs marked) (omega (arith, whole)))
 
+-- more bytes than the longest line has
+pub told-many : (xs : List ℕ) → longest < length xs → TooLong ≡ takenOf xs false
+told-many xs h = chosen xs false (ap (λ (t : Bool). both t true) (ne-eqb (length xs) 0 (λ e. omega (arith, e)))) (lt-ltb longest (length xs) h)
+
 -- a line is within the bytes held
 pub line-fits : (buffer : List ℕ) (n r : ℕ) (marked : Bool) → n ≤ length buffer → r ≡ lengthOf (take n buffer) marked → r ≤ length buffer
 line-fits buffer n r marked k f = omega (arith, f, length-most (take n buffer) marked, length-take-le n buffer k)

@@ -15,7 +15,7 @@ ghost use Rattle.input.specs.Held.{Holds, takenOf, within, Told};
 const LONGEST: usize = 65536;
 
 // Room for a line with a carriage return.
-pub const LINE_ROOM: usize = 65537;
+pub const LINE_ROOM: usize = LONGEST + 1;
 
 // Room for what is read at once.
 pub const CHUNK: usize = 65536;
@@ -200,9 +200,10 @@ fn take_piece(source: Source, chunk: &[u8], line: &mut [u8], held: usize) -> Pie
 }
 
 // The next line, at the start of `line`, which has LINE_ROOM places.
-// Rejected: a line feed in a line; a byte of the next line lost; the carriage return of an end mark kept; a line cut short in silence.
+// Rejected: a line feed in a line; a byte lost that the chunk has at entry, of this line or of a later one; a byte skipped behind a line feed
+// that a read gave; the carriage return of an end mark kept; a line cut short in silence, or the end told, by a source that is still open.
 pub fn next_line(from: Source, chunk: &mut [u8], line: &mut [u8]) -> Turn
-    ensures { λ r. ⌜ Told from (now (chunk .entry)) (now (line .exit)) (r .taken) ⌝ }
+    ensures { λ r. ⌜ Told from (now (chunk .entry)) (r .taken) (r .source) (now (chunk .exit)) (now (line .exit)) ⌝ }
     ensures { λ r. ⌜ (isKnown from (now (chunk .entry)) ≡ true → restOf (r .source) (now (chunk .exit)) ≡ leftOf (restOf from (now (chunk .entry)))) ⌝ }
     ensures { λ r. ⌜ within (r .taken) (length (now (line .exit))) ⌝ }
 {
@@ -220,6 +221,6 @@ pub fn next_line(from: Source, chunk: &mut [u8], line: &mut [u8]) -> Turn
         source = refill(chunk);
         turns = turns - 1;
     }
-    let taken = Taken::Ended;
+    let taken = Taken::TooLong;
     Turn { taken, source }
 }
