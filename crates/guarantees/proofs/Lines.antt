@@ -7,7 +7,7 @@ use Prim.Native.Nat.{ℕ, zero, _+_, _≤_, _<_}
 use native.Mathlib.Omega.{arith}
 use lib.Dec.{ltb, eqb}
 use lib.IntN.{ℤ, pos}
-use lib.ListN.{length, getD}
+use lib.ListN.{length, getD, length-map}
 use lib.Seq.{ext-getD}
 use borrow.Author.Tests.{eqb-true, eqb-false, ltb-true, ltb-false, eq-eqb, ne-eqb, lt-ltb, le-ltb}
 use Rattle.lists.specs.Table.{at}
@@ -31,7 +31,7 @@ use Rattle.lines.specs.Reply.{replyTo, replyOf, readOf, queryIn}
 use Rattle.lines.proofs.Answers.{read-told}
 use Rattle.lines.proofs.Values.{line-read}
 use Rattle.lines.proofs.Told.{Tells, told, exactly, modulus-same, terms-same}
-use Rattle.lines.proofs.Writing.{length-map, at-map}
+use Rattle.lines.proofs.Writing.{at-map}
 use Rattle.guarantees.specs.Lines.{Says, Inside, ByHand, ByCells, exitOf, Reason, buffer, form, range, modulus, count, done, ReadsLine, TypedLines}
 
 -- ---- the last two tests
@@ -108,7 +108,7 @@ module _ (l : Line) (i : Inside (modulusOf l)) (few : length (valuesOf l) ≤ ma
   residues = map (residueOf m) ts
 
   size : length residues ≡ length ts
-  size = length-map (residueOf m) ts
+  size = length-map ts (residueOf m)
 
   stands : (j : ℕ) → Stands m (at residues j) (getD ts j (pos 0))
   stands j = subst (λ (r : ℕ). Stands m r (getD ts j (pos 0))) (sym (at-map m ts j)) (residue-stands m (getD ts j (pos 0)) (omega (arith, i .least)))

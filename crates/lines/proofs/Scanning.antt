@@ -11,7 +11,7 @@ use native.Mathlib.Numerals.{add-one}
 use native.Mathlib.Omega.{arith}
 use lib.IntN.{ℤ, pos}
 use lib.ListN.{length, getD, drop, set, replicate, length-set, length-append, drop-of-length-le, List·getD-append, List·getD-eq-default}
-use lib.Seq.{drop-cons, getD-set-same, getD-set-other}
+use lib.Seq.{drop-cons, getD-set-same, getD-set-other, getD-append-seam}
 use borrow.Author.Tests.{ltb-false}
 use Rattle.lists.specs.Choice.{pick}
 use Rattle.lists.specs.Table.{at, tabulate}
@@ -26,10 +26,6 @@ use Rattle.lines.specs.Scan.{firstTerms, countEnded, arrayEnded, Kept}
 use Rattle.lines.proofs.Numbers.{over}
 
 -- ---- the first 128 terms
-
-getD-end : (ts : List ℤ) (t d : ℤ) → getD (ts ++ t ∷ []) (length ts) d ≡ t
-getD-end [] t d = refl
-getD-end (u ∷ ts) t d = getD-end ts t d
 
 first-more : (ts : List ℤ) (t : ℤ) → set (firstTerms ts) (length ts) t ≡ firstTerms (ts ++ t ∷ [])
 first-more ts t =
@@ -48,7 +44,7 @@ first-more ts t =
         go (yes e) =
             ap (λ (k : ℕ). getD (set (firstTerms ts) (length ts) t) k (pos 0)) e
             ∙ getD-set-same (firstTerms ts) (length ts) t (pos 0) (omega (arith, length-tabulate maxTerms (λ j. getD ts j (pos 0))))
-            ∙ sym (getD-end ts t (pos 0)) ∙ ap (λ (k : ℕ). getD (ts ++ t ∷ []) k (pos 0)) (sym e)
+            ∙ sym (getD-append-seam ts t [] (pos 0)) ∙ ap (λ (k : ℕ). getD (ts ++ t ∷ []) k (pos 0)) (sym e)
         go (no f) =
             getD-set-other (firstTerms ts) (length ts) i t (pos 0) f
             ∙ getD-tabulate maxTerms (λ j. getD ts j (pos 0)) i (pos 0) h ∙ other i (lt-or-le i (length ts)) f

@@ -1,13 +1,13 @@
 -- What the loop that writes a query knows: the modulus, the count and the first j remainders stand in its first cells. And the query of what was scanned.
 -- Assumes nothing.
-use mathlib.Core.Path.{_≡_, refl, sym, ap, ap₂, _∙_, subst}
+use mathlib.Core.Path.{_≡_, sym, ap, ap₂, _∙_, subst}
 use mathlib.Core.Bool.{Bool, true, false}
-use mathlib.Core.List.{List, [], _∷_, map}
+use mathlib.Core.List.{List, _∷_, map}
 use Prim.Native.Nat.{ℕ, suc, _+_, _*_, _^_, _≤_, _<_}
 use native.Mathlib.Nat.{zero-mod}
 use native.Mathlib.Omega.{arith}
 use lib.IntN.{ℤ, pos}
-use lib.ListN.{length, getD, List·getD-map}
+use lib.ListN.{length, getD, length-map, List·getD-map}
 use lib.Signed.{mag}
 use mir.Syntax.{w32}
 use mir.Val.{SFits, toZ, ofZ}
@@ -104,17 +104,13 @@ scanned-past (read k ts) i e = let z : _≡_ {A = Bool} false true = cc in false
 pub length-first : (ts xs : List ℤ) → xs ≡ firstTerms ts → length xs ≡ maxTerms
 length-first ts xs e = ap length e ∙ length-tabulate maxTerms (λ j. getD ts j (pos 0))
 
-pub length-map : (f : ℤ → ℕ) (ts : List ℤ) → length (map f ts) ≡ length ts
-length-map f [] = refl
-length-map f (t ∷ ts) = ap suc (length-map f ts)
-
 pub at-map : (m : ℕ) (ts : List ℤ) (j : ℕ) → at (map (residueOf m) ts) j ≡ residueOf m (getD ts j (pos 0))
 at-map m ts j = ap (getD (map (residueOf m) ts) j) (sym (zero-mod m)) ∙ List·getD-map (residueOf m) ts j (pos 0)
 
 -- the first 128 remainders, zero past the last, are those of the array
 pub same-query : (m n : ℕ) (ts xs : List ℤ) → n ≡ length ts → xs ≡ firstTerms ts → bytesOf (values m n xs) ≡ queryOf m (map (residueOf m) ts)
 same-query m n ts xs e f =
-    ap₂ (λ (k : ℕ) (vs : List ℕ). bytesOf (m ∷ k ∷ vs)) (e ∙ sym (length-map (residueOf m) ts))
+    ap₂ (λ (k : ℕ) (vs : List ℕ). bytesOf (m ∷ k ∷ vs)) (e ∙ sym (length-map ts (residueOf m)))
     (tabulate-eq maxTerms (remainder m xs) (at (map (residueOf m) ts)) each)
   where
     each : (j : ℕ) → j < maxTerms → remainder m xs j ≡ at (map (residueOf m) ts) j
