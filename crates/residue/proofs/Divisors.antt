@@ -1,4 +1,5 @@
--- The table of least divisors: a test of an entry at its place, which is computed for the whole table, and that an entry that passes is the least divisor.
+-- The least divisor of an odd number from the table: a test of an entry at its place, which is computed for the whole table, and that an entry that passes is
+-- the least divisor. Of an even number it is 2.
 -- Assumes nothing.
 use mathlib.Core.Path.{_≡_, refl, sym, ap, _∙_, subst}
 use mathlib.Core.Logic.{_≢_}
@@ -31,11 +32,10 @@ least n x = both (pick (ltb x 64) true (eqb x n)) (noneFrom n (min x 64 - 2) 2)
 abbrev divides : ℕ → ℕ → Bool
 divides n x = both (eqb (n % x) zero) (least n x)
 
--- the test of the entry x at n
+-- the test of the entry x at the place i, which is that of 2 i + 1
 abbrev pub entry : ℕ → ℕ → Bool
-entry zero x = eqb x zero
-entry (suc zero) x = eqb x 1
-entry (suc (suc k)) x = both (leb 2 x) (divides (suc (suc k)) x)
+entry zero x = eqb x 1
+entry (suc i) x = both (leb 2 x) (divides (2 * suc i + 1) x)
 
 none-at : (n k d : ℕ) → noneFrom n k d ≡ true → (e : ℕ) → d ≤ e → e < d + k → n % e ≢ zero
 none-at n zero d t e lo hi z = omega arith
@@ -98,12 +98,11 @@ module _ (n x : ℕ) (pos : zero < n) (small : n < divisorsEnd) (t : both (leb 2
   passes = record { big = two; most = le-of-dvd pos (dvd-of-mod-eq-zero x whole); divides = whole; none = none-below }
 
 -- an entry that passes is the least divisor
-entry-is : (n x : ℕ) → n < divisorsEnd → entry n x ≡ true → x ≡ leastDivisor n
+entry-is : (i x : ℕ) → 2 * i + 1 < divisorsEnd → entry i x ≡ true → x ≡ leastDivisor (2 * i + 1)
 unfolding leastDivisor first
-entry-is zero x h t = eqb-true x zero t
-entry-is (suc zero) x h t = eqb-true x 1 t
-entry-is (suc (suc k)) x h t =
-    is-least-divisor (suc (suc k)) x (omega arith) (passes (suc (suc k)) x (omega arith) h t)
+entry-is zero x h t = eqb-true x 1 t
+entry-is (suc i) x h t =
+    is-least-divisor (2 * suc i + 1) x (omega arith) (passes (2 * suc i + 1) x (omega arith) h t)
 
 -- ---- the whole table
 
@@ -119,7 +118,22 @@ from f (x ∷ xs) i t (suc k) h =
     ap (λ (m : ℕ). f m (getD xs k zero)) (add-suc i k ∙ sym (suc-add i k))
     ∙ from f xs (suc i) (both-right (f i x) (allFrom f (suc i) xs) t) k (le-of-suc-le-suc h)
 
--- a table whose entries pass has the least divisor at each place
-pub table-rule : (xs : List ℕ) (n : ℕ) → n < divisorsEnd → length xs ≡ divisorsEnd → allFrom entry zero xs ≡ true → getD xs n zero ≡ leastDivisor n
-table-rule xs n h e t =
-    entry-is n (getD xs n zero) h (ap (λ (m : ℕ). entry m (getD xs n zero)) (sym (zero-add n)) ∙ from entry xs zero t n (omega arith))
+-- a table whose entries pass has the least divisor of each odd number at its place
+pub table-rule : (xs : List ℕ) (i : ℕ) → 2 * i + 1 < divisorsEnd → 2 * length xs ≡ divisorsEnd → allFrom entry zero xs ≡ true → getD xs i zero ≡ leastDivisor (2 * i + 1)
+table-rule xs i h e t =
+    entry-is i (getD xs i zero) h (ap (λ (j : ℕ). entry j (getD xs i zero)) (sym (zero-add i)) ∙ from entry xs zero t i (omega arith))
+
+-- ---- every number
+
+pub of-zero : (n : ℕ) → n ≡ zero → zero ≡ leastDivisor n
+unfolding leastDivisor first
+of-zero n h = sym (ap leastDivisor h)
+
+pub of-even : (n : ℕ) → n ≢ zero → n % 2 ≡ zero → 2 ≡ leastDivisor n
+of-even n h e =
+    is-least-divisor n 2 (omega arith)
+    (record { big = omega arith; most = omega arith; divides = e; none = λ (d : ℕ) lo hi z. omega arith })
+
+-- an odd number is 2 i + 1, where i is half of it
+pub of-odd : (n x : ℕ) → n % 2 ≢ zero → x ≡ leastDivisor (2 * (n / 2) + 1) → x ≡ leastDivisor n
+of-odd n x h e = let back : 2 * (n / 2) + 1 ≡ n = omega arith in e ∙ ap leastDivisor back

@@ -13,8 +13,8 @@ mod table;
 
 use table::LEAST;
 
-// The table of least divisors goes up to this number, and stops before it.
-const LIMIT: usize = 4096;
+// How many odd numbers there are below 4,096, where the table of least divisors stops.
+const ODD_NUMBERS: usize = 2048;
 
 // 2^48. To divide by it is a shift.
 const TWO_48: u64 = 281474976710656;
@@ -150,12 +150,27 @@ pub fn reduce(x: u32, q: u32, m: u64) -> u32
     x - (t as u32) * q
 }
 
-// The least prime divisor of n, from the table. The array is made anew at each call: call it once for a modulus, not for each term.
+// The least prime divisor of the odd number 2 i + 1, from the table. The array is made anew at each call: call it once for a prime, not for each term.
+fn least_of_odd(i: usize) -> u16
+    requires { ⌜ 2 * i + 1 < divisorsEnd ⌝ }
+    ensures { λ r. ⌜ r ≡ leastDivisor (2 * i + 1) ⌝ }
+{
+    LEAST[i]
+}
+
+// The least prime divisor of n. Only an odd number is looked up: 2 divides every even one.
+// Rejected: 4 looked up as 5; 2 for 0, which has no least divisor and stands for itself.
 fn least_divisor(n: usize) -> u16
     requires { ⌜ n < divisorsEnd ⌝ }
     ensures { λ r. ⌜ r ≡ leastDivisor n ⌝ }
 {
-    LEAST[n]
+    if n == 0 {
+        return 0;
+    }
+    if n % 2 == 0 {
+        return 2;
+    }
+    least_of_odd(n / 2)
 }
 
 // The least prime of a number with its exponent there, their power, and what is left of the number.
