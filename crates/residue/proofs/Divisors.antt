@@ -1,5 +1,5 @@
 -- The least divisor of an odd number from the table: a test of an entry at its place, which is computed for the whole table, and that an entry that passes is
--- the least divisor. Of an even number it is 2.
+-- the least divisor. Of an even number from 2 on it is 2; 0 stands for itself.
 -- Assumes nothing.
 use mathlib.Core.Path.{_≡_, refl, sym, ap, _∙_, subst}
 use mathlib.Core.Logic.{_≢_}
@@ -125,10 +125,12 @@ table-rule xs i h e t =
 
 -- ---- every number
 
+-- 0 stands for itself
 pub of-zero : (n : ℕ) → n ≡ zero → zero ≡ leastDivisor n
 unfolding leastDivisor first
 of-zero n h = sym (ap leastDivisor h)
 
+-- 2 is the least number that can divide, and it does
 pub of-even : (n : ℕ) → n ≢ zero → n % 2 ≡ zero → 2 ≡ leastDivisor n
 of-even n h e =
     is-least-divisor n 2 (omega arith)

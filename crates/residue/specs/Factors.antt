@@ -8,7 +8,7 @@ use Rattle.lists.specs.Choice.{both}
 use Rattle.lists.specs.Search.{first}
 use Rattle.residue.specs.Valuation.{valuation}
 
--- the least divisor of n from 2 up, which is its least prime; 0 and 1 have none and stand for themselves
+-- the least divisor of n from 2 up, which is its least prime; 0 and 1 stand for themselves
 unfoldable pub leastDivisor : ℕ → ℕ
 leastDivisor n = first n (λ d. both (leb 2 d) (eqb (n % d) zero))
 

@@ -159,7 +159,7 @@ fn least_of_odd(i: usize) -> u16
 }
 
 // The least prime divisor of n. Only an odd number is looked up: 2 divides every even one.
-// Rejected: 4 looked up as 5; 2 for 0, which has no least divisor and stands for itself.
+// Rejected: 4 looked up as 5; 2 for 0, which stands for itself.
 fn least_divisor(n: usize) -> u16
     requires { ⌜ n < divisorsEnd ⌝ }
     ensures { λ r. ⌜ r ≡ leastDivisor n ⌝ }
@@ -181,7 +181,7 @@ pub struct Factor {
     pub rest: u32,
 }
 
-// Splits the power of its least prime off m. The table gives the prime, and weighing m by it the exponent and the rest.
+// Splits the power of its least prime off m. The prime is its least divisor, and weighing m by it gives the exponent and the rest.
 pub fn split(m: u32) -> Factor
     requires { ⌜ (2 ≤ m) × (m < divisorsEnd) ⌝ }
     ensures { λ r. ⌜ (r .prime ≡ leastPower m .prime) × (r .exponent ≡ leastPower m .exponent)

@@ -1,6 +1,6 @@
 use super::ODD_NUMBERS;
 
-// The least prime divisor of each odd number below the limit: that of 2 i + 1 at place i. 1 has none and stands for itself.
+// The least prime divisor of each odd number below 4,096: that of 2 i + 1 at place i. 1 has none and stands for itself.
 pub const LEAST: [u16; ODD_NUMBERS] = [
     1,
     3,

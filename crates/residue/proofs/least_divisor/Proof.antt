@@ -16,7 +16,8 @@ least-of-odd-requires : tie.Need-least-of-odd-requires
 least-of-odd-requires c κs = search needs
 
 returns-3 : tie.Need-returns-3
-returns-3 c = of-odd (c .before .before .before .args .n) _ (c .before .if2 .left) (c .least-of-odd .ensures)
+returns-3 c =
+    of-odd (c .before .before .before .args .n) _ (λ z. omega (arith, z, c .before .if2 .left)) (c .least-of-odd .ensures)
 
 pub least-divisor-spec : {M : Type 1} → statement M
 least-divisor-spec = tie.close (tie.spec returns returns-2 least-of-odd-requires returns-3)
