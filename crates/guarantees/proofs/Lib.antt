@@ -1,4 +1,5 @@
 pub mod State
+pub mod Columns
 pub mod Demand
 pub mod Working
 pub mod Records

@@ -18,17 +18,23 @@ use Rattle.recurrence.specs.Running.{cell, generated, firstDifference}
 use Rattle.sequence.specs.Answers.{firstOf}
 use Rattle.sequence.specs.Rules.{faultOf, openOf, pushOf, sequenceOf}
 use Rattle.sequence.specs.Trace.{traceOf}
+use Rattle.column.specs.Rules.{eachOf, pushAllOf, eachAnswer}
 use Rattle.candidate.specs.Rules.{flawOf, judgeOf, verifyAnswer, generateAnswer}
 use Rattle.catalogue.specs.Rules.{layout, recordOf, synthesizeAnswer, firstMatch, passes, lookUpAnswer}
 use Rattle.guarantees.specs.Calls.{afterAll}
 use Rattle.guarantees.specs.Numbers.{Numbers, Orders}
 
 pub numbers : Numbers
-unfolding tabulate largest first all every sumTo bytesOf equal neg inverse valuation cofactor leastDivisor leastPower powersUpTo primePowers joined conv plus times up top degree len discrepancy caseOf partner multiplier change remembered older noOlder next history rowAt part parts complexity register caseNumber partnerTold stepAt stepsAt stepsOver sheetOf rowsOver traceOf cell generated firstDifference firstOf faultOf openOf pushOf afterAll sequenceOf flawOf judgeOf verifyAnswer generateAnswer layout recordOf synthesizeAnswer firstMatch passes lookUpAnswer
+unfolding tabulate largest first all every sumTo bytesOf equal neg inverse valuation cofactor leastDivisor leastPower powersUpTo primePowers joined conv plus times up top degree len discrepancy caseOf partner multiplier change remembered older noOlder next history rowAt part parts complexity register caseNumber partnerTold stepAt stepsAt stepsOver sheetOf rowsOver traceOf cell generated firstDifference firstOf faultOf openOf pushOf afterAll sequenceOf eachOf pushAllOf eachAnswer flawOf judgeOf verifyAnswer generateAnswer layout recordOf synthesizeAnswer firstMatch passes lookUpAnswer
 numbers =
     record {
       opened = refl;
       pushed = refl;
+      pushed-all = refl;
+      pushed-none = refl;
+      pushed-128 = refl;
+      column-stays = refl;
+      column-ends-full = refl;
       reported = refl;
       profiled = refl;
       traced = refl;
@@ -56,9 +62,12 @@ numbers =
       refused-3-verified = refl;
       refused-3-looked-up = refl;
       refused-3-pushed = refl;
+      refused-3-column = refl;
+      refused-3-column-first = refl;
       refused-4 = refl;
       refused-5 = refl;
       refused-5-odd = refl;
+      refused-5-column = refl;
       refused-5-sheet = refl;
       refused-5-sheet-primes = refl;
       refused-6-a = refl;
@@ -72,7 +81,10 @@ numbers =
       refused-21-term = refl;
       refused-21-padding = refl;
       refused-21-traced = refl;
+      refused-21-column = refl;
+      refused-21-column-empty = refl;
       refused-22 = refl;
+      refused-22-column = refl;
       refused-23 = refl;
       refused-24-long = refl;
       refused-24-coefficient = refl;
@@ -86,11 +98,15 @@ numbers =
     }
 
 pub orders : Orders
-unfolding tabulate largest first all every sumTo bytesOf equal neg inverse valuation cofactor leastDivisor leastPower powersUpTo primePowers joined conv plus times up top degree len discrepancy caseOf partner multiplier change remembered older noOlder next history rowAt part parts complexity register caseNumber partnerTold stepAt stepsAt stepsOver sheetOf rowsOver traceOf cell generated firstDifference firstOf faultOf openOf pushOf afterAll sequenceOf flawOf judgeOf verifyAnswer generateAnswer layout recordOf synthesizeAnswer firstMatch passes lookUpAnswer
+unfolding tabulate largest first all every sumTo bytesOf equal neg inverse valuation cofactor leastDivisor leastPower powersUpTo primePowers joined conv plus times up top degree len discrepancy caseOf partner multiplier change remembered older noOlder next history rowAt part parts complexity register caseNumber partnerTold stepAt stepsAt stepsOver sheetOf rowsOver traceOf cell generated firstDifference firstOf faultOf openOf pushOf afterAll sequenceOf eachOf pushAllOf eachAnswer flawOf judgeOf verifyAnswer generateAnswer layout recordOf synthesizeAnswer firstMatch passes lookUpAnswer
 orders =
     record {
       push-21-22 = refl;
       push-22-3 = refl;
+      column-5-21 = refl;
+      column-21-22 = refl;
+      column-21-3 = refl;
+      column-22-3 = refl;
       report-5-21 = refl;
       trace-5-21 = refl;
       trace-21-5 = refl;

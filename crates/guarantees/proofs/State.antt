@@ -2,15 +2,18 @@
 -- Assumes nothing.
 use mathlib.Core.Path.{_≡_, refl, sym, ap, _∙_, subst}
 use mathlib.Core.List.{List, [], _∷_, _++_, map, append-assoc, append-nil}
-use mathlib.Core.Logic.{⊎-elim}
+use mathlib.Core.Logic.{_⊎_, inl, inr, ⊎-elim}
 use mathlib.Core.Bool.{true}
-use Prim.Native.Nat.{ℕ, suc, _+_, _-_, _≤_, _<_}
+use Prim.Native.Nat.{ℕ, suc, _+_, _-_, _%_, _≤_, _<_}
 use native.Mathlib.Nat.{not-suc-le-zero}
+use native.Mathlib.Decide.{ℕ-discrete}
 use native.Mathlib.Omega.{arith}
-use lib.ListN.{length, set, replicate, length-append, getD-replicate, List·getD-append}
+use lib.Dec.{eqb}
+use lib.ListN.{length, take, set, replicate, length-append, getD-replicate, List·getD-append}
 use lib.Seq.{set-at, getD-append-add, getD-append-seam}
-use borrow.Author.Tests.{lt-ltb, le-ltb}
+use borrow.Author.Tests.{lt-ltb, le-ltb, eq-eqb, ne-eqb}
 use borrow.Author.Count.{below-more}
+use Rattle.lists.specs.Choice.{pick}
 use Rattle.lists.specs.Table.{at}
 use Rattle.lists.proofs.Search.{lt-or-le}
 use Rattle.sequence.specs.declared.Sequence.{Sequence}
@@ -20,7 +23,10 @@ use Rattle.sequence.specs.declared.Pushed.{Pushed}
 use Rattle.sequence.specs.Limits.{maxModulus, maxTerms}
 use Rattle.sequence.specs.Rules.{openOf, pushOf, faultOf, isSound, IsSound}
 use Rattle.sequence.proofs.Laws.{is-sound, open-done, push-done, push-full, push-large}
-use Rattle.guarantees.specs.Calls.{Call, push, register, profile, trace, afterAll, takes, takenFrom, taken}
+use Rattle.column.specs.declared.PushedAll.{PushedAll}
+use Rattle.column.specs.Rules.{termsIn, eachOf, pushAllOf}
+use Rattle.column.proofs.Laws.{each-done, each-full, each-large, column-odd, column-each}
+use Rattle.guarantees.specs.Calls.{Call, push, pushAll, register, profile, trace, afterAll, takesEach, takes, takenFrom, taken}
 
 -- the terms in an array of 128, zero past the last
 abbrev pub padded : List ℕ → List ℕ
@@ -38,8 +44,12 @@ pub record Good (m : ℕ) (ts : List ℕ) : Type 0 where
 pub padded-at : (ts : List ℕ) (j : ℕ) → j < length ts → at (padded ts) j ≡ at ts j
 padded-at ts j h = List·getD-append ts (replicate (maxTerms - length ts) 0) 0 j h
 
+front : (xs ys : List ℕ) → take (length xs) (xs ++ ys) ≡ xs
+front [] ys = refl
+front (x ∷ xs) ys = ap (λ (l : List ℕ). x ∷ l) (front xs ys)
+
 module _ (m : ℕ) (least : 2 ≤ m) (most : m ≤ maxModulus) where
-  holding-sound : (ts : List ℕ) → Good m ts → IsSound (holding m ts)
+  pub holding-sound : (ts : List ℕ) → Good m ts → IsSound (holding m ts)
   holding-sound ts g =
       record {
         least = least;
@@ -115,12 +125,53 @@ module _ (m : ℕ) (least : 2 ≤ m) (most : m ≤ maxModulus) where
                 j (subst (λ (z : ℕ). j < z) l i);
           }
 
+  -- what a column's terms do to the sequence and to the terms
+  abbrev Both : Sequence → List ℕ → Type 0
+  Both s ts = (s ≡ holding m ts) × Good m ts
+
+  each-for : (us ts : List ℕ) → Good m ts → Both (eachOf (holding m ts) us .sequence) (takesEach m ts us)
+  unfolding eachOf takesEach
+  each-for [] ts g = (refl, g)
+  each-for (t ∷ us) ts g = go (lt-or-le t m) (lt-or-le (length ts) maxTerms) (λ h. each-for us (ts ++ (t ∷ [])) h)
+    where
+      s : IsSound (holding m ts)
+      s = holding-sound ts g
+
+      kept : {x y : PushedAll} → x ≡ y → x .sequence ≡ y .sequence
+      kept = ap (λ (x : PushedAll). x .sequence)
+
+      go :
+          (t < m) ⊎ (m ≤ t) → (length ts < maxTerms) ⊎ (maxTerms ≤ length ts)
+          → (Good m (ts ++ (t ∷ [])) → Both (eachOf (holding m (ts ++ (t ∷ []))) us .sequence) (takesEach m (ts ++ (t ∷ [])) us))
+          → Both (eachOf (holding m ts) (t ∷ us) .sequence) (takesEach m ts (t ∷ us))
+      go (inl k) (inl h) ih =
+          let rest = ih (rw (lt-ltb t m k, lt-ltb (length ts) maxTerms h) at (good-more ts t g)) in
+          rw (lt-ltb t m k, lt-ltb (length ts) maxTerms h)
+          (kept (each-done (holding m ts) t us s h k) ∙ ap (λ (z : Sequence). eachOf z us .sequence) (more ts t h) ∙ rest .0, rest .1)
+      go (inl k) (inr h) ih = rw (lt-ltb t m k, le-ltb (length ts) maxTerms h) (kept (each-full (holding m ts) t us s (omega (arith, g .size))), g)
+      go (inr k) (inl h) ih = rw (le-ltb t m k) (kept (each-large (holding m ts) t us s h k), g)
+      go (inr k) (inr h) ih = rw (le-ltb t m k) (kept (each-full (holding m ts) t us s (omega (arith, g .size))), g)
+
+  column-for : (ts list : List ℕ) → Good m ts → Both (pushAllOf (holding m ts) list .sequence) (takes m ts (pushAll list))
+  column-for ts list g = go (ℕ-discrete (length list % 2) 0)
+    where
+      kept : {x y : PushedAll} → x ≡ y → x .sequence ≡ y .sequence
+      kept = ap (λ (x : PushedAll). x .sequence)
+
+      go : Dec (length list % 2 ≡ 0) → Both (pushAllOf (holding m ts) list .sequence) (pick (eqb (length list % 2) 0) (takesEach m ts (termsIn list)) ts)
+      go (yes e) = let f = each-for (termsIn list) ts g in rw (eq-eqb _ _ e) (kept (column-each (holding m ts) list e (holding-sound ts g)) ∙ f .0, f .1)
+      go (no f) = rw (ne-eqb _ _ f) (kept (column-odd (holding m ts) list f), g)
+
   after-from : (cs : List Call) (ts : List ℕ) → Good m ts → (afterAll (holding m ts) cs ≡ holding m (takenFrom m ts cs)) × Good m (takenFrom m ts cs)
   unfolding afterAll takenFrom
   after-from [] ts g = (refl, g)
   after-from (push t ∷ cs) ts g =
       let h = after-from cs (takes m ts (push t)) (good-more ts t g) in
       (ap (λ (z : Sequence). afterAll z cs) (push-for ts t g) ∙ h .0, h .1)
+  after-from (pushAll list ∷ cs) ts g =
+      let f = column-for ts list g in
+      let h = after-from cs (takes m ts (pushAll list)) (f .1) in
+      (ap (λ (z : Sequence). afterAll z cs) (f .0) ∙ h .0, h .1)
   after-from (register a b ∷ cs) ts g = after-from cs ts g
   after-from (profile c ∷ cs) ts g = after-from cs ts g
   after-from (trace a b sheet ∷ cs) ts g = after-from cs ts g
@@ -137,6 +188,10 @@ module _ (m : ℕ) (least : 2 ≤ m) (most : m ≤ maxModulus) where
 
   pub good : (cs : List Call) → Good m (taken m cs)
   good cs = after-from cs [] good-none .1
+
+  -- the terms taken stand in it
+  pub taken-held : (cs : List Call) → (let s = afterAll (openOf m .sequence) cs in take (s .count) (s .terms)) ≡ taken m cs
+  taken-held cs = ap (λ (s : Sequence). take (s .count) (s .terms)) (state cs) ∙ front (taken m cs) (replicate (maxTerms - length (taken m cs)) 0)
 
   -- ---- pushing terms one by one
 

@@ -4,5 +4,6 @@ pub mod Cases
 pub mod Numbers
 pub mod Refusals
 pub mod Coded
+pub mod Columns
 pub mod Lines
 pub mod Typed

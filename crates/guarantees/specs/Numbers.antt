@@ -9,11 +9,14 @@ use Rattle.lists.specs.Table.{at, tabulate}
 use Rattle.cells.specs.Cell.{bytesOf}
 use Rattle.steps.specs.declared.StepRecord.{StepRecord}
 use Rattle.sequence.specs.declared.Sequence.{Sequence}
+use Rattle.sequence.specs.declared.Refusal.the-variants.{Term, Full}
+use Rattle.sequence.specs.declared.Outcome.the-variants.{Refused}
 use Rattle.sequence.specs.Limits.{maxTerms, queryBytes, aBytes, bBytes, profileBytes}
 use Rattle.sequence.specs.Answers.{Answer, granted, refused, refusedAt}
 use Rattle.sequence.specs.Rules.{openOf, openAnswer, pushAnswer, queryOf}
 use Rattle.sequence.specs.Report.{reportAnswer, profileAnswer}
 use Rattle.sequence.specs.Trace.{recordsOf, traceOf, traceAnswer, sheetFilled}
+use Rattle.column.specs.Rules.{pushAllOf, pushAllAnswer}
 use Rattle.candidate.specs.Rules.{verifyAnswer, generateAnswer}
 use Rattle.catalogue.specs.Rules.{recordBytes, recordOf, synthesizeAnswer, lookUpAnswer}
 use Rattle.diverthrone.specs.Codes.{codeOf}
@@ -55,9 +58,12 @@ wrongAt1And3 = queryOf 5 (0 ∷ 5 ∷ 4 ∷ 9 ∷ [])
 abbrev pub counted : ℕ → ℕ → List ℕ → List ℕ
 counted m n ts = bytesOf (m ∷ n ∷ tabulate maxTerms (at ts))
 
--- a sequence that no call made, and what a push, a register, a profile and a trace answer to it
+-- a sequence that no call made, and what a push, a column, a register, a profile and a trace answer to it
 abbrev pub forged : ℕ → ℕ → List ℕ → Sequence
 forged m n ts = record { modulus = m; count = n; terms = tabulate maxTerms (at ts) }
+
+abbrev pub columnTo : Sequence → List ℕ → Answer
+columnTo s ts = pushAllAnswer s (bytesOf ts)
 
 abbrev pub registerTo : Sequence → Answer
 registerTo s = reportAnswer s (zeros aBytes) (zeros bBytes)
@@ -83,6 +89,15 @@ blank = step 7 7 7 7 7 7 7 7
 pub record Numbers : Type 0 where
   pub opened : openAnswer 4095 ≡ granted []
   pub pushed : pushAnswer (openOf 9 .sequence) 8 ≡ granted []
+  pub pushed-all : columnTo (after 9 (6 ∷ [])) (3 ∷ 1 ∷ 5 ∷ 6 ∷ []) ≡ granted []
+  pub pushed-none : columnTo (openOf 9 .sequence) [] ≡ granted []
+  pub pushed-128 : columnTo (openOf 2 .sequence) (replicate 128 1) ≡ granted []
+  pub column-stays :
+      pushAllOf (after 9 (6 ∷ [])) (bytesOf (3 ∷ 9 ∷ 5 ∷ []))
+      ≡ record { sequence = after 9 (6 ∷ 3 ∷ []); taken = 1; outcome = Refused (Term 2) }
+  pub column-ends-full :
+      pushAllOf (forged 2 127 []) (bytesOf (1 ∷ 0 ∷ 0 ∷ []))
+      ≡ record { sequence = forged 2 128 (replicate 127 0 ++ (1 ∷ [])); taken = 1; outcome = Refused Full }
   pub reported : registerTo (after 9 (6 ∷ 3 ∷ 1 ∷ 5 ∷ 6 ∷ [])) ≡ granted (3 ∷ [])
   pub profiled : profileTo (after 9 (6 ∷ 3 ∷ 1 ∷ 5 ∷ 6 ∷ [])) ≡ granted []
   pub traced : traceTo (after 9 (6 ∷ 3 ∷ 1 ∷ 5 ∷ 6 ∷ [])) 10 ≡ granted (3 ∷ [])
@@ -112,9 +127,12 @@ pub record Numbers : Type 0 where
   pub refused-3-verified : verifyAnswer wrongAt1And3 (aOf (1 ∷ [])) (bOf []) 0 ≡ refusedAt 3 1
   pub refused-3-looked-up : lookUpAnswer wrongAt1And3 two out ≡ refusedAt 3 1
   pub refused-3-pushed : pushAnswer (after 9 (6 ∷ 3 ∷ [])) 9 ≡ refusedAt 3 2
+  pub refused-3-column : columnTo (after 9 (6 ∷ [])) (3 ∷ 9 ∷ 5 ∷ []) ≡ refusedAt 3 2
+  pub refused-3-column-first : columnTo (openOf 9 .sequence) (9 ∷ 9 ∷ []) ≡ refusedAt 3 0
   pub refused-4 : synthesizeTo (counted 5 0 (1 ∷ [])) ≡ refused 4
   pub refused-5 : synthesizeTo [] ≡ refused 5
   pub refused-5-odd : generateTo 9 (1 ∷ []) 0 1 ≡ refused 5
+  pub refused-5-column : pushAllAnswer (openOf 9 .sequence) (6 ∷ 0 ∷ 3 ∷ []) ≡ refused 5
   pub refused-5-sheet : traceTo (after 9 (6 ∷ 3 ∷ 1 ∷ 5 ∷ 6 ∷ [])) 9 ≡ refused 5
   pub refused-5-sheet-primes : traceTo (after 12 (7 ∷ [])) 2 ≡ refused 5
   pub refused-6-a : verifyTo (1 ∷ 4 ∷ 9 ∷ 1 ∷ []) (6 ∷ 0 ∷ 1 ∷ []) 3 ≡ refused 6
@@ -128,7 +146,10 @@ pub record Numbers : Type 0 where
   pub refused-21-term : registerTo (forged 5 1 (5 ∷ [])) ≡ refused 21
   pub refused-21-padding : profileTo (forged 5 0 (1 ∷ [])) ≡ refused 21
   pub refused-21-traced : traceTo (forged 5 1 (5 ∷ [])) 1 ≡ refused 21
+  pub refused-21-column : columnTo (forged 5 0 (1 ∷ [])) (0 ∷ []) ≡ refused 21
+  pub refused-21-column-empty : columnTo (openOf 1 .sequence) [] ≡ refused 21
   pub refused-22 : pushAnswer (forged 2 128 []) 0 ≡ refused 22
+  pub refused-22-column : columnTo (openOf 2 .sequence) (replicate 129 1) ≡ refused 22
   pub refused-23 : lookUpAnswer nine (0 ∷ []) out ≡ refused 23
   pub refused-24-long : lookUpTo (1 ∷ []) [] 129 ≡ refused 24
   pub refused-24-coefficient : lookUpTo (1 ∷ 4 ∷ 9 ∷ 1 ∷ []) (6 ∷ 0 ∷ 1 ∷ []) 3 ≡ refused 24
@@ -144,6 +165,10 @@ pub record Numbers : Type 0 where
 pub record Orders : Type 0 where
   pub push-21-22 : pushAnswer (forged 1 128 []) 0 ≡ refused 21
   pub push-22-3 : pushAnswer (forged 2 128 []) 2 ≡ refused 22
+  pub column-5-21 : pushAllAnswer (openOf 1 .sequence) (0 ∷ []) ≡ refused 5
+  pub column-21-22 : columnTo (forged 1 128 []) (0 ∷ []) ≡ refused 21
+  pub column-21-3 : columnTo (forged 5 1 (5 ∷ [])) (5 ∷ []) ≡ refused 21
+  pub column-22-3 : columnTo (forged 2 128 []) (2 ∷ []) ≡ refused 22
   pub report-5-21 : reportAnswer (openOf 1 .sequence) [] [] ≡ refused 5
   pub trace-5-21 : traceAnswer (openOf 1 .sequence) [] [] 0 ≡ refused 5
   pub trace-21-5 : traceTo (forged 5 1 (5 ∷ [])) 0 ≡ refused 21

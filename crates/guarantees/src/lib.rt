@@ -1,6 +1,6 @@
-// The claims that speak of several calls: specs/ has them, proofs/ their proofs. The one function drives a list of pushes, registers and
-// profiles through the calls themselves; its contract says what they all do together, and the claim about every such list. (A trace has no
-// code there: it is lent a slice of structs.)
+// The claims that speak of several calls: specs/ has them, proofs/ their proofs. The one function drives a list of pushes, columns,
+// registers and profiles through the calls themselves; its contract says what they all do together, and the claim about every such list. (A
+// trace has no code there: it is lent a slice of structs.)
 use sequence::Outcome;
 use sequence::Reported;
 use sequence::Sequence;
@@ -17,11 +17,18 @@ pub struct Replies {
     pub profiled: Outcome,
 }
 
-// One call, coded as a number: 0 is a register, 1 a profile, n + 2 a push of n.
+// One call, coded as a number: 0 is a register, 1 a profile, 2 a column of the list, n + 3 a push of n.
 // Rejected: a register that is lent b as a and a as b.
-fn one(s: Sequence, code: u32, a: &mut [u8], b: &mut [u8], cells: &mut [u8]) -> Sequence
+fn one(
+    s: Sequence,
+    code: u32,
+    list: &[u8],
+    a: &mut [u8],
+    b: &mut [u8],
+    cells: &mut [u8],
+) -> Sequence
     ensures { λ r. ⌜ stateOf r (now (a .exit)) (now (b .exit)) (now (cells .exit))
-        ≡ afterCode (stateOf s (now (a .entry)) (now (b .entry)) (now (cells .entry))) code ⌝ }
+        ≡ afterCode (now (list .entry)) (stateOf s (now (a .entry)) (now (b .entry)) (now (cells .entry))) code ⌝ }
 {
     if code == 0 {
         sequence::register(s, a, b);
@@ -31,29 +38,40 @@ fn one(s: Sequence, code: u32, a: &mut [u8], b: &mut [u8], cells: &mut [u8]) -> 
         sequence::profile(s, cells);
         return s;
     }
-    let p = sequence::push(s, code - 2);
+    if code == 2 {
+        let c = column::push_all(s, list);
+        return c.sequence;
+    }
+    let p = sequence::push(s, code - 3);
     p.sequence
 }
 
-// Opens a sequence, makes the coded calls one after the other, then a register and a profile.
+// Opens a sequence, makes the coded calls one after the other, each column with the lent list, then a register and a profile.
 // Rejected: one that leaves the last coded call out; one that tells another length than the last register's.
-pub fn drive(modulus: u32, codes: &[u32], a: &mut [u8], b: &mut [u8], cells: &mut [u8]) -> Replies
-    ensures { λ r. ⌜ r ≡ repliesOf (drivenTo modulus (now (codes .entry)) (now (a .entry)) (now (b .entry)) (now (cells .entry))) ⌝ }
+pub fn drive(
+    modulus: u32,
+    codes: &[u32],
+    list: &[u8],
+    a: &mut [u8],
+    b: &mut [u8],
+    cells: &mut [u8],
+) -> Replies
+    ensures { λ r. ⌜ r ≡ repliesOf (drivenTo modulus (now (codes .entry)) (now (list .entry)) (now (a .entry)) (now (b .entry)) (now (cells .entry))) ⌝ }
     ensures { λ _. ⌜ now (a .exit)
-        ≡ ended (drivenTo modulus (now (codes .entry)) (now (a .entry)) (now (b .entry)) (now (cells .entry))) .a ⌝ }
+        ≡ ended (drivenTo modulus (now (codes .entry)) (now (list .entry)) (now (a .entry)) (now (b .entry)) (now (cells .entry))) .a ⌝ }
     ensures { λ _. ⌜ now (b .exit)
-        ≡ ended (drivenTo modulus (now (codes .entry)) (now (a .entry)) (now (b .entry)) (now (cells .entry))) .b ⌝ }
+        ≡ ended (drivenTo modulus (now (codes .entry)) (now (list .entry)) (now (a .entry)) (now (b .entry)) (now (cells .entry))) .b ⌝ }
     ensures { λ _. ⌜ now (cells .exit)
-        ≡ ended (drivenTo modulus (now (codes .entry)) (now (a .entry)) (now (b .entry)) (now (cells .entry))) .cells ⌝ }
+        ≡ ended (drivenTo modulus (now (codes .entry)) (now (list .entry)) (now (a .entry)) (now (b .entry)) (now (cells .entry))) .cells ⌝ }
     ensures { λ r. ⌜ (2 ≤ modulus → modulus ≤ maxModulus → length (now (a .entry)) ≡ aBytes → length (now (b .entry)) ≡ bBytes
         → length (now (cells .entry)) ≡ profileBytes
-        → Shows modulus (takenBy modulus (now (codes .entry))) (r .reported) (r .profiled) (now (a .exit)) (now (b .exit)) (now (cells .exit))) ⌝ }
+        → Shows modulus (takenBy modulus (now (list .entry)) (now (codes .entry))) (r .reported) (r .profiled) (now (a .exit)) (now (b .exit)) (now (cells .exit))) ⌝ }
 {
     let o = sequence::open(modulus);
     let mut s = o.sequence;
     let mut i: usize = 0;
     while i < codes.len() {
-        s = one(s, codes[i], a, b, cells);
+        s = one(s, codes[i], list, a, b, cells);
         i += 1;
     }
     let reported = sequence::register(s, a, b);

@@ -163,7 +163,7 @@ fn stopped(s: Sequence) -> Turn {
     }
 }
 
-// The turn after a call that leaves the sequence held as it is.
+// The turn after a call whose line is written: the sequence held, and whether the script had the whole call.
 fn kept(s: Sequence, whole: bool) -> Turn {
     if whole {
         return Turn {
@@ -201,6 +201,28 @@ fn push(s: Sequence, term: u32) -> Turn {
 }
 
 // Of each call with buffers, NAME lends them, and NAME_in makes the call in their parts of the stated lengths.
+fn push_all_in(s: Sequence, list: &mut [u8]) -> Turn {
+    if is_cut(list) {
+        return kept(s, false);
+    }
+    let p = column::push_all(s, list);
+    printing::text(b"push_all taken ");
+    printing::number(p.taken as u64);
+    printing::text(b" ");
+    let r = p.outcome;
+    outcome(r);
+    let after = p.sequence;
+    print_hash(hash_sequence(after));
+    end_hash(hash(list));
+    kept(after, true)
+}
+
+fn push_all(s: Sequence, c: Call) -> Turn {
+    let x = c.x as usize;
+    let mut list = [0u8; 65536];
+    push_all_in(s, &mut list[0..x])
+}
+
 fn register_in(s: Sequence, a: &mut [u8], b: &mut [u8]) {
     let r = sequence::register(s, a, b);
     printing::text(b"register ");
@@ -423,6 +445,7 @@ fn act(s: Sequence, c: Call) -> Turn {
         8 => forge(s, c),
         9 => trace(s, c),
         10 => kept(s, read_line(c)),
+        11 => push_all(s, c),
         _ => unknown(s, operation),
     }
 }

@@ -8,12 +8,14 @@ use Prim.Native.Nat.{ℕ, zero, _+_, _≤_, _<_}
 use native.Mathlib.Nat.{le-refl}
 use native.Mathlib.Omega.{arith}
 use lib.Dec.{ltb, leb, eqb}
-use lib.ListN.{length}
+use lib.ListN.{length, set, length-set}
+use lib.Seq.{getD-set-same, getD-set-other}
 use lib.Arith.{lt-of-le-ne}
+use borrow.Author.Count.{below-more}
 use borrow.Author.Tests.{ltb-true, ltb-false, leb-true, leb-false, eqb-true, lt-ltb, le-ltb, lt-leb, le-leb, eq-eqb, ne-eqb}
 use Rattle.lists.specs.Choice.{pick}
 use Rattle.lists.specs.Table.{at}
-use Rattle.lists.proofs.Table.{at-tabulate}
+use Rattle.lists.proofs.Table.{at-tabulate, at-past}
 use Rattle.lists.proofs.Search.{false-true, lt-or-le, first-passes, first-before, is-first, first-none, none-first, all-at, all-true}
 use Rattle.cells.specs.Cell.{cellAt}
 use Rattle.sequence.specs.declared.Sequence.{Sequence}
@@ -193,6 +195,22 @@ push-full s t h k = rw (is-sound s h, eq-eqb _ _ k)
 pub push-large : (s : Sequence) (t : ℕ) → IsSound s → s .count < maxTerms → s .modulus ≤ t → pushOf s t ≡ record { sequence = s; outcome = Refused (R.Term (s .count)) }
 unfolding pushOf
 push-large s t h k b = rw (is-sound s h, ne-eqb (s .count) maxTerms (λ e. omega arith), le-leb _ _ b)
+
+-- a sound sequence with one term more is sound
+pub sound-longer : (s : Sequence) (t : ℕ) → IsSound s → s .count < maxTerms → t < s .modulus → IsSound (longer s t)
+sound-longer s t h room small =
+    record {
+      least = h .least;
+      most = h .most;
+      count = omega arith;
+      below = below-more _ (s .count) (λ j k. subst (λ (x : ℕ). x < s .modulus) (sym (getD-set-other (s .terms) (s .count) j t 0 (λ e. omega arith))) (h .below j k)) (last (lt-or-le (s .count) (length (s .terms))));
+      zeros = λ j k l. getD-set-other (s .terms) (s .count) j t 0 (λ e. omega arith) ∙ h .zeros j (omega arith) l;
+    }
+  where
+    -- where there is no such place, nothing is stored and zero is read
+    last : (s .count < length (s .terms)) ⊎ (length (s .terms) ≤ s .count) → at (set (s .terms) (s .count) t) (s .count) < s .modulus
+    last (inl l) = subst (λ (x : ℕ). x < s .modulus) (sym (getD-set-same (s .terms) (s .count) t 0 l)) small
+    last (inr l) = subst (λ (x : ℕ). x < s .modulus) (sym (at-past (set (s .terms) (s .count) t) (s .count) (omega (arith, length-set (s .terms) (s .count) t)))) (omega (arith, h .least))
 
 -- ---- queries
 

@@ -200,7 +200,7 @@ fn inspect(s: Sequence) -> Outcome
 }
 
 // Whether a sequence is within the limits: nothing is wrong with it.
-fn is_sound(s: Sequence) -> bool
+pub fn is_sound(s: Sequence) -> bool
     ensures { λ r. ⌜ r ≡ isSound (faultOf s) ⌝ }
 {
     let o = inspect(s);

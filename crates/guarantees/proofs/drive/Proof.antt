@@ -12,19 +12,19 @@ use Rattle.guarantees.proofs.drive.Statement.{statement}
 use Rattle.guarantees.proofs.drive.Tie as tie
 
 abbrev Inv-loop : tie.InvT-loop
-Inv-loop modulus codes a₀ b₀ cells₀ s₀ i₀ a b cells s i =
-    Reached (stateOf (openOf modulus .sequence) a₀ b₀ cells₀) codes i (stateOf s a b cells) × (length a ≡ length a₀) × (length b ≡ length b₀) × (length cells ≡ length cells₀)
+Inv-loop modulus codes list a₀ b₀ cells₀ s₀ i₀ a b cells s i =
+    Reached list (stateOf (openOf modulus .sequence) a₀ b₀ cells₀) codes i (stateOf s a b cells) × (length a ≡ length a₀) × (length b ≡ length b₀) × (length cells ≡ length cells₀)
 
 abbrev μ-loop : tie.MeasureT-loop
-μ-loop modulus codes a₀ b₀ cells₀ s₀ i₀ a b cells s i = length codes - i
+μ-loop modulus codes list a₀ b₀ cells₀ s₀ i₀ a b cells s i = length codes - i
 
 open-requires : tie.Need-open-requires Inv-loop μ-loop
 open-requires c κs = search needs
 
 loop-holds : tie.Need-loop-holds Inv-loop μ-loop
 loop-holds c =
-    let v = c .before .before .before .before .before .before .args in
-    (ap (λ (o : Opened). stateOf (o .sequence) (v .a .now) (v .b .now) (v .cells .now)) (c .before .«open» .ensures .0) ∙ reached-none _ (v .codes .now), refl, refl, refl)
+    let v = c .before .before .before .before .before .before .before .args in
+    (ap (λ (o : Opened). stateOf (o .sequence) (v .a .now) (v .b .now) (v .cells .now)) (c .before .«open» .ensures .0) ∙ reached-none (v .list .now) _ (v .codes .now), refl, refl, refl)
 
 mul-one : tie.Need-mul-one Inv-loop μ-loop
 mul-one c = search needs
@@ -44,7 +44,7 @@ loop-less c = search needs
 loop-again : tie.Need-loop-again Inv-loop μ-loop
 loop-again c =
     let l = c .before .before .before .before .before .before .before .before .before .before .before .before .loop in
-    (reached-more _ _ (l .i) (stateOf (l .s) (l .a) (l .b) (l .cells)) _ (c .before .before .before .before .before .before .before .before .before .before .before .loop-test .taken) (l .inv .0) (c .before .before .before .before .before .before .one .ensures), search needs, search needs, search needs)
+    (reached-more _ _ _ (l .i) (stateOf (l .s) (l .a) (l .b) (l .cells)) _ (c .before .before .before .before .before .before .before .before .before .before .before .loop-test .taken) (l .inv .0) (c .before .before .before .before .before .before .one .ensures), search needs, search needs, search needs)
 
 register-requires : tie.Need-register-requires Inv-loop μ-loop
 register-requires c κs = search needs
@@ -64,11 +64,11 @@ same-length-3 c = search needs
 returns : tie.Need-returns Inv-loop μ-loop
 returns c =
     let l = c .before .before .before .before .before .before .before .before .before .before .before .before .loop in
-    let v = c .before .before .before .before .before .before .before .before .before .before .before .before .before .before .before .before .before .before .before .args in
+    let v = c .before .before .before .before .before .before .before .before .before .before .before .before .before .before .before .before .before .before .before .before .args in
     let r = c .before .before .before .before .before .before .before .before .register in
     let p = c .before .before .profile in
-    driven (v .modulus) (v .codes .now) (v .a .now) (v .b .now) (v .cells .now) (l .s) (l .a) (l .b) (l .cells)
-    (reached-all _ _ (l .i) _ (c .before .before .before .before .before .before .before .before .before .before .before .loop-test .left) (l .inv .0)) (l .inv .1) (l .inv .2) (l .inv .3)
+    driven (v .modulus) (v .codes .now) (v .list .now) (v .a .now) (v .b .now) (v .cells .now) (l .s) (l .a) (l .b) (l .cells)
+    (reached-all _ _ _ (l .i) _ (c .before .before .before .before .before .before .before .before .before .before .before .loop-test .left) (l .inv .0)) (l .inv .1) (l .inv .2) (l .inv .3)
     (r .result) (p .result) _ _ _ (r .ensures .0) (r .ensures .1 .0) (r .ensures .1 .1 .0) (p .ensures .0) (p .ensures .1 .0)
 
 pub drive-spec : {M : Type 1} → statement M

@@ -1,0 +1,75 @@
+// A column of terms, pushed in one call.
+use sequence::MAX_TERMS;
+use sequence::Outcome;
+use sequence::Refusal;
+use sequence::Sequence;
+ghost use mathlib.Core.Path.{_≡_};
+ghost use Rattle.sequence.specs.Answers.{outcomeAnswer};
+ghost use Rattle.sequence.specs.Rules.{IsSound};
+ghost use Rattle.column.specs.Rules.{termsIn, eachOf, pushAllOf, pushAllAnswer};
+
+// How many terms were taken, the refusal of the next one if any, and the sequence as it is then.
+pub struct PushedAll {
+    pub sequence: Sequence,
+    pub taken: usize,
+    pub outcome: Outcome,
+}
+
+// The terms of a column pushed to a sound sequence, which stays sound: it is not inspected again.
+fn push_each(s: Sequence, list: &[u8]) -> PushedAll
+    requires { ⌜ IsSound s ⌝ }
+    ensures { λ r. ⌜ r ≡ eachOf s (termsIn (now (list .entry))) ⌝ }
+{
+    let n = list.len() / 2;
+    let mut longer = s;
+    let mut i: usize = 0;
+    while i < n {
+        let count = longer.count;
+        if count == MAX_TERMS {
+            return PushedAll {
+                sequence: longer,
+                taken: i,
+                outcome: Outcome::Refused(Refusal::Full),
+            };
+        }
+        let term = cells::cell(list, i);
+        if longer.modulus <= term {
+            return PushedAll {
+                sequence: longer,
+                taken: i,
+                outcome: Outcome::Refused(Refusal::Term(count)),
+            };
+        }
+        longer.terms[count as usize] = term;
+        longer.count = count + 1;
+        i += 1;
+    }
+    PushedAll {
+        sequence: longer,
+        taken: i,
+        outcome: Outcome::Done,
+    }
+}
+
+// Pushes the terms of a column, up to the first refused one; those before it stay. The column may have more terms than there is room for.
+// Rejected: one that goes on after a refused term; one that gives back the sequence as it came where a term is refused.
+pub fn push_all(s: Sequence, list: &[u8]) -> PushedAll
+    ensures { λ r. ⌜ r ≡ pushAllOf s (now (list .entry)) ⌝ }
+    ensures { λ r. ⌜ outcomeAnswer (r .outcome) ≡ pushAllAnswer s (now (list .entry)) ⌝ }
+{
+    if list.len() % 2 != 0 {
+        return PushedAll {
+            sequence: s,
+            taken: 0,
+            outcome: Outcome::Refused(Refusal::Buffer),
+        };
+    }
+    if sequence::is_sound(s) {
+        return push_each(s, list);
+    }
+    PushedAll {
+        sequence: s,
+        taken: 0,
+        outcome: Outcome::Refused(Refusal::Sequence),
+    }
+}
