@@ -1,10 +1,11 @@
-//! The calls of document 01, and of requests A1 to A3 in 02, on plain values and
+//! The calls of document 01, and of requests A1 to A3 and A5 in 02, on plain values and
 //! byte buffers.
 //!
 //! "Order where several apply: 5, 21, 1, 2, 22, 3, 4, 6, 23, 24. Each call gives
 //! only those that concern what it is handed." 25 comes right before 6, 26 right
 //! after it, and only the 5 of a sheet comes after 21. 27 and 28 come after 5 and before
-//! 1, the one with the lower place. A refused call leaves every lent byte as it was.
+//! 1, the one with the lower place. A refused call leaves every lent byte as it was, and
+//! a reading too, but for the terms that a column took before its refusal.
 
 use crate::join::{
     histories, profile as profile_of, register as register_of, register_after, sheet as sheet_of,
@@ -139,6 +140,43 @@ pub fn push(reading: &mut Reading, term: u32) -> Result<(), Refusal> {
     reading.terms[count] = term as u16;
     reading.count += 1;
     Ok(())
+}
+
+/// Takes a column, a list of cells: 5 (odd bytes), 21, then for each term 22, 3, this one
+/// with the reading's count then. Returns how many were taken, and what ended it: "terms
+/// taken before a refusal stay". It is known first how many fit; they join at once.
+pub fn push_all(reading: &mut Reading, list: &[u8]) -> (usize, Result<(), Refusal>) {
+    let even = demand(list.len() % CELL_BYTES == 0, Refusal::Buffer);
+    let held = match even.and_then(|()| check_reading(reading)) {
+        Ok(held) => held,
+        Err(refusal) => return (0, Err(refusal)),
+    };
+    let offered = cells(list);
+    let (taken, outcome) = fitting(&held, &offered);
+    let count = held.terms.len();
+    for (cell, &term) in reading.terms[count..].iter_mut().zip(&offered[..taken]) {
+        *cell = term as u16;
+    }
+    reading.count = (count + taken) as u16;
+    (taken, outcome)
+}
+
+/// How many of the offered terms are taken, and the refusal of the one after them: as many
+/// as there is room for, and none from the first wrong one on. Where both end at the same
+/// term, it is "reached when 128 are held": 22.
+fn fitting(held: &Sequence, offered: &[u64]) -> (usize, Result<(), Refusal>) {
+    let count = held.terms.len();
+    let room = TERMS_LIMIT - count;
+    let wrong = offered.iter().position(|&term| term >= held.modulus).unwrap_or(offered.len());
+    let taken = offered.len().min(room).min(wrong);
+    let outcome = if taken == offered.len() {
+        Ok(())
+    } else if taken == room {
+        Err(Refusal::Full)
+    } else {
+        Err(Refusal::Term(count + taken))
+    };
+    (taken, outcome)
 }
 
 /// Reports the register and returns l: 5, 21.

@@ -26,7 +26,7 @@ const NAMED: [Named; 9] = [
     (6, &[1, 0], 1, &[1, 0], &[1]),
 ];
 
-fn padded(numbers: &[u64], cells: usize) -> Vec<u64> {
+pub fn padded(numbers: &[u64], cells: usize) -> Vec<u64> {
     let mut numbers = numbers.to_vec();
     numbers.resize(cells, 0);
     numbers

@@ -1,9 +1,9 @@
 //! What the random slips, scripts and typed lines meet: every refusal of every call, the
-//! places, the kinds of bad claims and of lines. The seeds are those that
+//! places, the kinds of bad claims, of lines and of columns. The seeds are those that
 //! tests/expectations.sh uses.
 
 use crate::ask::{self, ask, LINE_LIMIT};
-use crate::calls::{cells, check_slip, read_line, verify, Verdict};
+use crate::calls::*;
 use crate::cases::{told, Told};
 use crate::checks::Group;
 use crate::faults::{faults, offending, Fault};
@@ -11,7 +11,7 @@ use crate::limits::*;
 use crate::linecalls::linecalls;
 use crate::listing::listing;
 use crate::scenarios;
-use crate::script::{replay, Call, Operation};
+use crate::script::{line, reading_bytes, replay, Call, Operation};
 use crate::sequences;
 use crate::typed::typed;
 use std::collections::{BTreeMap, BTreeSet};
@@ -20,7 +20,7 @@ use std::collections::{BTreeMap, BTreeSet};
 const LEAST: usize = 3;
 
 /// The calls and the refusals that each has.
-const REFUSALS: [(&str, &[u32]); 12] = [
+const REFUSALS: [(&str, &[u32]); 13] = [
     ("open", &[1]),
     ("push", &[21, 22, 3]),
     ("register", &[5, 21]),
@@ -31,6 +31,7 @@ const REFUSALS: [(&str, &[u32]); 12] = [
     ("look_up", &[5, 1, 2, 3, 4, 23, 24]),
     ("trace", &[5, 21]),
     ("read_line", &[5, 27, 28, 1, 2]),
+    ("push_all", &[5, 21, 22, 3]),
     // A piece that is too short is put after the slips.
     ("listing", &[1, 2, 3, 4]),
     ("ask", &[5, 27, 28, 1, 2]),
@@ -63,6 +64,7 @@ pub fn met(group: &mut Group) {
     claims_met(group, &script);
     lines_met(group, &script, &input);
     longest_met(group, &input);
+    columns_met(group, &script);
 }
 
 fn often(group: &mut Group, times: usize, words: impl Fn() -> String) {
@@ -76,7 +78,12 @@ fn refusals_met(group: &mut Group, text: &str) {
     let mut places = Tally::new();
     for line in text.lines() {
         let words: Vec<&str> = line.split(' ').collect();
-        let [call, "refused", number, rest @ ..] = &words[..] else { continue };
+        // A column tells first how many were taken.
+        let ([call, "taken", _, "refused", number, rest @ ..]
+        | [call, "refused", number, rest @ ..]) = &words[..]
+        else {
+            continue;
+        };
         count(&mut tally, (*call, number.parse().unwrap_or(0)));
         let place = match rest {
             ["at", place, ..] => Some(*place),
@@ -95,9 +102,11 @@ fn refusals_met(group: &mut Group, text: &str) {
         let times = tally.get(&(call, number)).copied().unwrap_or(0);
         often(group, times, || format!("{call} refused {number}"));
     }
-    for place in [0, 1, 2, 10, 127] {
-        let times = places.get(&("push", place)).copied().unwrap_or(0);
-        often(group, times, || format!("push refused 3 at {place}"));
+    for (call, place) in
+        ["push", "push_all"].iter().flat_map(|call| [0, 1, 2, 10, 127].map(|place| (*call, place)))
+    {
+        let times = places.get(&(call, place)).copied().unwrap_or(0);
+        often(group, times, || format!("{call} refused 3 at {place}"));
     }
     for call in ["verify", "synthesize", "look_up", "listing"] {
         let others = places.keys().filter(|(name, place)| *name == call && *place > 0).count();
@@ -447,5 +456,266 @@ fn kinds_of_range(line: &[u8], place: usize) -> Kinds {
         ("28, then another byte", line[place..].iter().any(other)),
         ("28, in a line above 1,000 bytes", line.len() > 1000),
         ("28, after the 128th term", commas(before) >= 128),
+    ]
+}
+
+// ---- columns ----
+
+/// What the columns must be, and what must come after some of them.
+const KINDS_OF_COLUMNS: [&str; 66] = [
+    "ok, no cell",
+    "ok, no cell, 128 held",
+    "ok, one cell",
+    "ok, more cells",
+    "ok, some held before",
+    "ok, up to the 128th",
+    "ok, 128 cells",
+    "5, one byte",
+    "5, more bytes",
+    "5, above 256 bytes",
+    "5, above 10,000 bytes",
+    "5, 128 held",
+    "5, a bad modulus",
+    "5, a bad count",
+    "5, a bad term",
+    "5, something past the count",
+    "21, a bad modulus, no cell",
+    "21, a bad count, no cell",
+    "21, a bad term, no cell",
+    "21, something past the count, no cell",
+    "21, a bad modulus, cells",
+    "21, a bad count, cells",
+    "21, a bad term, cells",
+    "21, something past the count, cells",
+    "21, a wrong term",
+    "22, none taken",
+    "22, some taken",
+    "22, 128 taken",
+    "22, one more than fits",
+    "22, none taken, and a wrong term",
+    "22, some taken, and a wrong term",
+    "22, a right term, and a wrong one later",
+    "22, 129 cells",
+    "22, 200 cells",
+    "22, 1,000 cells",
+    "22, above 10,000 cells",
+    "22, 129 cells, none held",
+    "22, 200 cells, none held",
+    "22, 1,000 cells, none held",
+    "22, above 10,000 cells, none held",
+    "3, none taken",
+    "3, some taken",
+    "3 at 0",
+    "3 at 127",
+    "3 at 127, some taken",
+    "3, some held before, some taken",
+    "3, one cell",
+    "3, the first of several",
+    "3, the last of several",
+    "3, in the middle",
+    "3, the modulus",
+    "3, the modulus and 1",
+    "3, 65,535",
+    "3, another term",
+    "3, a low byte in range",
+    "3, right terms later",
+    "3, another wrong term later",
+    "3, above 128 cells",
+    "3, then more than fits",
+    "some taken, as by another before",
+    "some taken, as by another and singly before",
+    "right after a refused one that took some",
+    "right after a refused one that took none",
+    "register after a refused one that took some",
+    "profile after a refused one that took some",
+    "trace after a refused one that took some",
+];
+
+fn columns_met(group: &mut Group, script: &[u8]) {
+    let mut tally = Tally::new();
+    let mut trail = Trail::of(zero_reading());
+    let mut rest = script;
+    while let Ok((call, size)) = Call::parse(rest) {
+        rest = &rest[size..];
+        for (kind, applies) in trail.follow(&call) {
+            *tally.entry(kind).or_insert(0) += usize::from(applies);
+        }
+    }
+    for kind in KINDS_OF_COLUMNS {
+        often(group, tally.get(kind).copied().unwrap_or(0), || format!("columns: {kind}"));
+    }
+    let all = tally.len() == KINDS_OF_COLUMNS.len();
+    group.check(all, || format!("kinds of columns: {tally:?}"));
+}
+
+/// The reading held along a script, and what came since it was opened or forged.
+struct Trail {
+    held: Reading,
+    /// A column took some; a single taking was not refused after it.
+    column: bool,
+    taking: bool,
+    /// The last call was a refused column, with how many it took.
+    just_refused: Option<usize>,
+    /// A refused column took some, and nothing was taken since.
+    stays: bool,
+}
+
+impl Trail {
+    fn of(held: Reading) -> Trail {
+        Trail { held, column: false, taking: false, just_refused: None, stays: false }
+    }
+
+    /// Makes the call; the kinds that it is of.
+    fn follow(&mut self, call: &Call) -> Kinds {
+        let just_refused = self.just_refused.take();
+        match call.operation {
+            Operation::Open | Operation::Forge => {
+                line(call, &mut self.held);
+                *self = Trail::of(self.held.clone());
+            }
+            Operation::Push => {
+                if push(&mut self.held, call.number).is_ok() {
+                    (self.taking, self.stays) = (self.column, false);
+                }
+            }
+            Operation::PushAll => return self.column(&call.payload, just_refused),
+            Operation::Register => {
+                let right = self.stays && call.lengths[..2] == [A_BYTES as u16, B_BYTES as u16];
+                return vec![("register after a refused one that took some", right)];
+            }
+            Operation::Profile => {
+                let right = self.stays && call.lengths[0] == PROFILE_BYTES as u16;
+                return vec![("profile after a refused one that took some", right)];
+            }
+            Operation::Trace => {
+                let right = self.stays && call.lengths[..2] == [A_BYTES as u16, B_BYTES as u16];
+                return vec![("trace after a refused one that took some", right)];
+            }
+            _ => {}
+        }
+        Vec::new()
+    }
+
+    fn column(&mut self, list: &[u8], just_refused: Option<usize>) -> Kinds {
+        let before = self.held.clone();
+        let (taken, outcome) = push_all(&mut self.held, list);
+        let (some, refused) = (taken > 0, told(outcome).err());
+        let mut kinds = kinds_of_column(&before, list, taken, refused);
+        kinds.extend([
+            ("some taken, as by another before", some && self.column),
+            ("some taken, as by another and singly before", some && self.taking),
+            ("right after a refused one that took some", just_refused.is_some_and(|n| n > 0)),
+            ("right after a refused one that took none", just_refused == Some(0)),
+        ]);
+        if some {
+            (self.column, self.taking, self.stays) = (true, false, refused.is_some());
+        }
+        self.just_refused = refused.map(|_| taken);
+        kinds
+    }
+}
+
+fn kinds_of_column(before: &Reading, list: &[u8], taken: usize, refused: Option<Told>) -> Kinds {
+    let (m, count) = (u64::from(before.modulus), usize::from(before.count));
+    let terms = cells(list);
+    match refused {
+        None => vec![
+            ("ok, no cell", terms.is_empty()),
+            ("ok, no cell, 128 held", terms.is_empty() && count == 128),
+            ("ok, one cell", terms.len() == 1),
+            ("ok, more cells", terms.len() > 1),
+            ("ok, some held before", taken > 0 && count > 0),
+            ("ok, up to the 128th", taken > 0 && count + taken == 128),
+            ("ok, 128 cells", taken == 128),
+        ],
+        Some((5, _)) => {
+            let bad = badness(before);
+            vec![
+                ("5, one byte", list.len() == 1),
+                ("5, more bytes", list.len() > 1),
+                ("5, above 256 bytes", list.len() > 256),
+                ("5, above 10,000 bytes", list.len() > 10_000),
+                ("5, 128 held", bad == 0 && count == 128),
+                ("5, a bad modulus", bad == 1),
+                ("5, a bad count", bad == 2),
+                ("5, a bad term", bad == 3),
+                ("5, something past the count", bad == 4),
+            ]
+        }
+        Some((21, _)) => {
+            let (bad, empty) = (badness(before), terms.is_empty());
+            let wrong = m > 1 && terms.iter().any(|&term| term >= m);
+            vec![
+                ("21, a bad modulus, no cell", bad == 1 && empty),
+                ("21, a bad count, no cell", bad == 2 && empty),
+                ("21, a bad term, no cell", bad == 3 && empty),
+                ("21, something past the count, no cell", bad == 4 && empty),
+                ("21, a bad modulus, cells", bad == 1 && !empty),
+                ("21, a bad count, cells", bad == 2 && !empty),
+                ("21, a bad term, cells", bad == 3 && !empty),
+                ("21, something past the count, cells", bad == 4 && !empty),
+                ("21, a wrong term", wrong),
+            ]
+        }
+        Some((number, _)) => match terms.get(taken..).and_then(<[u64]>::split_first) {
+            Some((&term, later)) if number == 22 => kinds_of_full(m, taken, term, later),
+            Some((&term, later)) => kinds_of_wrong(m, count, taken, term, later),
+            None => Vec::new(),
+        },
+    }
+}
+
+/// What a slip with the reading's bytes gets, 1 to 4, or 0 for nothing.
+fn badness(reading: &Reading) -> u32 {
+    check_slip(&reading_bytes(reading)).map_or_else(|refusal| refusal.number(), |_| 0)
+}
+
+/// The kinds of a column that gets 22 for the term after those taken.
+fn kinds_of_full(m: u64, taken: usize, term: u64, later: &[u64]) -> Kinds {
+    let size = taken + 1 + later.len();
+    let wrong = term >= m;
+    let wrong_later = later.iter().any(|&term| term >= m);
+    vec![
+        ("22, none taken", taken == 0),
+        ("22, some taken", taken > 0),
+        ("22, 128 taken", taken == 128),
+        ("22, one more than fits", taken > 0 && later.is_empty()),
+        ("22, none taken, and a wrong term", taken == 0 && wrong),
+        ("22, some taken, and a wrong term", taken > 0 && wrong),
+        ("22, a right term, and a wrong one later", !wrong && wrong_later),
+        ("22, 129 cells", size == 129),
+        ("22, 200 cells", size == 200),
+        ("22, 1,000 cells", size == 1000),
+        ("22, above 10,000 cells", size > 10_000),
+        ("22, 129 cells, none held", size == 129 && taken == 128),
+        ("22, 200 cells, none held", size == 200 && taken == 128),
+        ("22, 1,000 cells, none held", size == 1000 && taken == 128),
+        ("22, above 10,000 cells, none held", size > 10_000 && taken == 128),
+    ]
+}
+
+/// The kinds of a column that gets 3 for the term after those taken.
+fn kinds_of_wrong(m: u64, count: usize, taken: usize, term: u64, later: &[u64]) -> Kinds {
+    let end = count + taken;
+    vec![
+        ("3, none taken", taken == 0),
+        ("3, some taken", taken > 0),
+        ("3 at 0", end == 0),
+        ("3 at 127", end == 127),
+        ("3 at 127, some taken", end == 127 && taken > 0),
+        ("3, some held before, some taken", count > 0 && taken > 0),
+        ("3, one cell", taken == 0 && later.is_empty()),
+        ("3, the first of several", taken == 0 && !later.is_empty()),
+        ("3, the last of several", taken > 0 && later.is_empty()),
+        ("3, in the middle", taken > 0 && !later.is_empty()),
+        ("3, the modulus", term == m),
+        ("3, the modulus and 1", term == m + 1),
+        ("3, 65,535", term == 65535),
+        ("3, another term", term > m + 1 && term < 65535),
+        ("3, a low byte in range", term % 256 < m && m <= 256),
+        ("3, right terms later", !later.is_empty() && later.iter().all(|&term| term < m)),
+        ("3, another wrong term later", later.iter().any(|&term| term >= m)),
+        ("3, above 128 cells", taken + 1 + later.len() > 128),
+        ("3, then more than fits", end + later.len() > 128),
     ]
 }

@@ -82,7 +82,8 @@ fn check_passed_on(group: &mut Group, slip: &[u8], place: usize) {
 }
 
 /// The terms of a slip with a legal modulus and count, offered in order: the first that is
-/// refused is so with the slip's place, which is then the reading's count.
+/// refused is so with the slip's place, which is then the reading's count; as one column
+/// they get the same.
 fn check_taken_singly(group: &mut Group, slip: &[u8], place: Option<usize>) {
     let (m, count) = (number_at(slip, 0), number_at(slip, 1));
     let (mut reading, opened) = open(m as u32);
@@ -97,6 +98,10 @@ fn check_taken_singly(group: &mut Group, slip: &[u8], place: Option<usize>) {
         Some(place) => refused == Some(Refusal::Term(place)) && taken == place,
     };
     group.check(right, || format!("taken singly: {refused:?} for {place:?}: {slip:?}"));
+    let (mut other, _) = open(m as u32);
+    let column = push_all(&mut other, &slip[4..][..2 * count as usize]);
+    let same = column == (taken, refused.map_or(Ok(()), Err)) && other == reading;
+    group.check(same, || format!("a column: {column:?} for {refused:?}: {slip:?}"));
 }
 
 // ---- how a claim is bad ----

@@ -27,6 +27,7 @@ pub fn orders(group: &mut Group) {
     orders_of_reports(group);
     orders_of_listing(group);
     orders_of_lines(group);
+    orders_of_columns(group);
 }
 
 /// Each kind of fault for itself, with its number and place.
@@ -247,6 +248,32 @@ fn faulty_line(with: With, breaks_first: bool) -> String {
     format!("mod {modulus}:{terms}{first},{second}")
 }
 
+/// 5, 21, 22, 3 for the first term of a column, and for the second, where the first one
+/// stays taken if neither 5 nor 21 applies.
+fn orders_of_columns(group: &mut Group) {
+    for taken in [0, 1] {
+        let order = [bare(5), bare(21), bare(22), term_at(2 + taken)];
+        every_set(group, "a column", &order, |with| {
+            let count = if with(22) { TERMS_LIMIT - taken } else { 2 };
+            let mut reading = reading_of(9, &[8; TERMS_LIMIT][..count]);
+            if with(21) {
+                reading.modulus = 8;
+            }
+            let mut list = bytes_of(&[8, 8, 8], 3);
+            if with(3) {
+                set_cell(&mut list, taken, 9);
+            }
+            let mut after = reading.clone();
+            if !with(5) && !with(21) {
+                after = reading_of(9, &[8; TERMS_LIMIT][..count + taken]);
+            }
+            let (found, outcome) = push_all(&mut reading, &list[usize::from(with(5))..]);
+            let right = found == usize::from(after.count) - count && reading == after;
+            kept(outcome, right)
+        });
+    }
+}
+
 // ---- each kind of fault ----
 
 /// Each refusal has its number in the papers, 3, 27 and 28 alone have a place, and the
@@ -389,7 +416,7 @@ fn hashed(reading: &Reading) -> String {
 }
 
 /// Readings that get 21, each for another reason.
-fn unsound() -> Vec<Reading> {
+pub fn unsound() -> Vec<Reading> {
     let good = reading_of(9, &[6, 3]);
     let mut forged = vec![zero_reading(); 6];
     forged[1] = Reading { modulus: 4096, ..good.clone() };

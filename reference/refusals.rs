@@ -1,4 +1,4 @@
-//! The refusals of 01 and of 02 as far as A3, with their numbers and the place that
+//! The refusals of 01 and of 02 as far as A5, with their numbers and the place that
 //! a 3, a 27 or a 28 carries.
 
 use std::fmt;
@@ -12,7 +12,8 @@ pub enum Refusal {
     /// 2: "the count of terms, or of cells to run, is above 128".
     TooMany,
     /// 3: "one of the terms is not below the modulus", with the first such place,
-    /// "counted from 0 (for a single term, the reading's count)".
+    /// "counted from 0 (for a single term, the reading's count)"; for a term of a column
+    /// "the reading's count at that moment".
     Term(usize),
     /// 4: "a slip holds something other than zero past its count".
     Padding,

@@ -2,6 +2,7 @@
 //! running, catalogues for serving and making.
 
 use crate::calls::{outputs, record_with, slip_of, zero_reading, Reading};
+use crate::columns::{bad_reading, column};
 use crate::join::{register as register_of, sheet_size, Register};
 use crate::limits::*;
 use crate::random::Random;
@@ -60,16 +61,23 @@ struct List {
 
 impl List {
     fn add(&mut self, call: Call) {
-        // Only these change the reading; the others need not be made here.
-        if matches!(call.operation, Operation::Open | Operation::Push | Operation::Forge) {
+        // The others need not be made here.
+        if changes_reading(call.operation) {
             line(&call, &mut self.held);
         }
         self.calls.push(call);
     }
 }
 
+/// Whether a call of this kind may change the reading held.
+pub fn changes_reading(operation: Operation) -> bool {
+    use Operation::*;
+    matches!(operation, Open | Push | Forge | PushAll)
+}
+
 /// `calls SEED COUNT`: that many lists, each of which starts with an opening or a
-/// forged reading and ends with a report and a profile, mostly followed by tracings.
+/// forged reading and ends with a report and a profile, mostly followed by tracings, and
+/// at times by tracings and columns of readings that are not sound.
 pub fn calls(seed: u64, lists: u64) -> Vec<u8> {
     let mut random = Random::new(seed);
     let mut script = Vec::new();
@@ -83,17 +91,7 @@ fn list(random: &mut Random) -> Vec<Call> {
     let m = modulus(random);
     let mut list = List { calls: Vec::new(), held: zero_reading() };
     list.add(opening(random, m));
-    for term in planned_terms(random, m) {
-        while random.once_in(8) {
-            let call = side_call(random, m, &list.held);
-            list.add(call);
-        }
-        // 3 with its least and its largest place, and 22 before 3.
-        if [0, 127, 128].contains(&list.held.count) && random.once_in(2) {
-            list.add(wrong_term(random, m));
-        }
-        list.add(plain(random, Operation::Push, term as u32, [0; 3]));
-    }
+    offer_terms(random, m, &mut list);
     while random.once_in(2) {
         let call = side_call(random, m, &list.held);
         list.add(call);
@@ -101,7 +99,81 @@ fn list(random: &mut Random) -> Vec<Call> {
     list.add(plain(random, Operation::Register, 0, REPORT_LENGTHS));
     list.add(plain(random, Operation::Profile, 0, [PROFILE_BYTES as u16, 0, 0]));
     last_tracings(random, &mut list);
+    if random.once_in(6) {
+        unsound_columns(random, m, &mut list);
+    }
     list.calls
+}
+
+/// The planned terms in order, singly and in columns, with other calls between them.
+fn offer_terms(random: &mut Random, m: u64, list: &mut List) {
+    let planned = planned_terms(random, m);
+    let mut left = &planned[..];
+    // Some lists are columns above all, others single takings.
+    let rare = random.pick(&[6, 24, 96, 96]);
+    while let Some((&term, later)) = left.split_first() {
+        while random.once_in(8) {
+            let call = side_call(random, m, &list.held);
+            list.add(call);
+        }
+        // 3 with its least and its largest place, and 22 before 3.
+        let edge = [0, 127, 128].contains(&list.held.count);
+        if edge && random.once_in(2) {
+            list.add(wrong_term(random, m));
+        }
+        // The reading of a refused opening would stay at 0.
+        let often = edge && list.held.modulus > 0;
+        if random.once_in(if often { 3 } else { rare }) {
+            left = columns(random, m, list, left);
+        } else {
+            list.add(plain(random, Operation::Push, term as u32, [0; 3]));
+            left = later;
+        }
+    }
+    if random.once_in(3) {
+        columns(random, m, list, &[]);
+    }
+}
+
+/// A column of the terms that are left to be offered, or several in a row, with reports
+/// after some: the terms taken before a refusal stay. What is then left comes back.
+fn columns<'a>(
+    random: &mut Random,
+    m: u64,
+    list: &mut List,
+    mut left: &'a [u64],
+) -> &'a [u64] {
+    loop {
+        let before = list.held.count;
+        let bytes = column(random, m, &list.held, left);
+        list.add(column_call(random, bytes));
+        left = &left[left.len().min(usize::from(list.held.count - before))..];
+        if random.once_in(4) {
+            list.add(plain(random, Operation::Register, 0, REPORT_LENGTHS));
+        }
+        if !random.once_in(3) {
+            return left;
+        }
+    }
+}
+
+fn column_call(random: &mut Random, bytes: Vec<u8>) -> Call {
+    let mut call = plain(random, Operation::PushAll, 0, [bytes.len() as u16, 0, 0]);
+    call.payload = bytes;
+    call
+}
+
+/// Where the reading is not sound, for one reason alone: 21 for no term too, and 5 for an
+/// odd number of bytes before 21.
+fn unsound_columns(random: &mut Random, m: u64, list: &mut List) {
+    let mut call = plain(random, Operation::Forge, 0, [SLIP_BYTES as u16, 0, 0]);
+    call.payload = bad_reading(random);
+    list.add(call);
+    let cells = random.between(1, 4) as usize;
+    for size in [0, 1, CELL_BYTES * cells + 1, CELL_BYTES * cells] {
+        let terms = uniform(random, m, cells + 1);
+        list.add(column_call(random, cells_of(&terms)[..size].to_vec()));
+    }
 }
 
 /// Mostly one with right buffers, then perhaps others; in one list of six also those

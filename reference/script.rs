@@ -21,9 +21,10 @@ pub enum Operation {
     Forge = 8,
     Trace = 9,
     ReadLine = 10,
+    PushAll = 11,
 }
 
-const OPERATIONS: [(Operation, &str); 11] = [
+const OPERATIONS: [(Operation, &str); 12] = [
     (Operation::Open, "open"),
     (Operation::Push, "push"),
     (Operation::Register, "register"),
@@ -35,6 +36,7 @@ const OPERATIONS: [(Operation, &str); 11] = [
     (Operation::Forge, "forge"),
     (Operation::Trace, "trace"),
     (Operation::ReadLine, "read_line"),
+    (Operation::PushAll, "push_all"),
 ];
 
 /// One call of a script. `number` is the modulus, the term, the l of a test or the
@@ -56,7 +58,10 @@ impl Call {
         match operation {
             Operation::Verify => [true, true, true],
             Operation::Generate | Operation::LookUp => [true, true, false],
-            Operation::Synthesize | Operation::Forge | Operation::ReadLine => [true, false, false],
+            Operation::Synthesize
+            | Operation::Forge
+            | Operation::ReadLine
+            | Operation::PushAll => [true, false, false],
             _ => [false, false, false],
         }
     }
@@ -166,7 +171,8 @@ pub fn replay(script: &[u8]) -> (String, bool) {
     (text, true)
 }
 
-/// The name, the reply, and a hash for each writable thing that was lent.
+/// The name, the reply, and a hash for each writable thing that was lent, and for a column
+/// of the list too, which "still keeps its content".
 pub fn line(call: &Call, reading: &mut Reading) -> String {
     let mut buffers = call.buffers();
     let reply = match perform(call, reading, &mut buffers) {
@@ -183,6 +189,7 @@ pub fn line(call: &Call, reading: &mut Reading) -> String {
         Operation::Generate | Operation::LookUp => vec![third],
         Operation::Synthesize | Operation::ReadLine => vec![second],
         Operation::Trace => vec![first, second, third],
+        Operation::PushAll => vec![&held, first],
     };
     let mut line = format!("{} {}", OPERATIONS[call.operation as usize].1, reply);
     for bytes in writable {
@@ -225,6 +232,12 @@ fn perform(
             outcome.map(|l| format!("length {l}"))
         }
         Operation::ReadLine => calls::read_line(first, second).map(ok),
+        Operation::PushAll => {
+            // A refused one too tells how many were taken.
+            let (taken, outcome) = calls::push_all(reading, first);
+            let ended = outcome.map_or_else(|refusal| refusal.to_string(), ok);
+            Ok(format!("taken {taken} {ended}"))
+        }
     }
 }
 

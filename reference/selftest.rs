@@ -3,6 +3,8 @@
 use crate::calls::*;
 use crate::cases;
 use crate::checks::{group, Group};
+use crate::columncases;
+use crate::columnchecks;
 use crate::compact;
 use crate::coverage;
 use crate::faults;
@@ -25,7 +27,7 @@ use crate::steps::{self, coefficient, length, Pair};
 use crate::typed;
 
 /// The groups in the order in which they run.
-const GROUPS: [(&str, fn(&mut Group)); 31] = [
+const GROUPS: [(&str, fn(&mut Group)); 34] = [
     ("cases 1 to 15", cases::cases),
     ("tables 1 and 2 of 000", cases::tables),
     ("sheets and their text by hand", cases::sheets_by_hand),
@@ -57,6 +59,9 @@ const GROUPS: [(&str, fn(&mut Group)); 31] = [
     ("typed lines made from known numbers", linechecks::made_lines),
     ("typed lines, read left to right", linechecks::left_to_right),
     ("typed lines asked, and their working", linechecks::asked),
+    ("columns by hand", columncases::by_hand),
+    ("columns do what single takings do", columnchecks::singly),
+    ("columns anywhere in lists of calls", columnchecks::anywhere),
 ];
 
 /// True if every group passes.
@@ -316,7 +321,7 @@ fn scripts(group: &mut Group) {
     }
     scripts_of_lines(group);
     group.check(replay(&[]) == (String::new(), true), || String::from("no calls"));
-    group.check(replay(&[11; 16]).0 == "script unknown 11\n", || String::from("unknown"));
+    group.check(replay(&[12; 16]).0 == "script unknown 12\n", || String::from("unknown"));
     listings(group);
 }
 

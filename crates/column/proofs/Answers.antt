@@ -4,7 +4,7 @@ use mathlib.Core.Path.{_≡_, refl, sym, ap, _∙_}
 use mathlib.Core.Bool.{Bool, true, false, not}
 use mathlib.Core.Logic.{_⊎_, inl, inr}
 use mathlib.Core.List.{List, [], _∷_}
-use Prim.Native.Nat.{ℕ, _%_, _≤_, _<_}
+use Prim.Native.Nat.{ℕ, zero, _%_, _≤_, _<_}
 use native.Mathlib.Decide.{ℕ-discrete}
 use lib.Dec.{leb, eqb}
 use lib.ListN.{length}
@@ -20,11 +20,8 @@ use Rattle.sequence.specs.Answers.{Answer, granted, refused, refusedAt, outcome
 use Rattle.sequence.specs.Rules.{faultOf, isSound, IsSound, longer}
 use Rattle.sequence.proofs.Laws.{sound-of, sound-longer}
 use Rattle.column.specs.declared.PushedAll.{PushedAll}
-use Rattle.column.specs.Rules.{termsIn, noneTaken, eachOf, eachAnswer, pushAllOf, pushAllAnswer}
+use Rattle.column.specs.Rules.{termsIn, took, eachOf, eachAnswer, pushAllOf, pushAllAnswer}
 use Rattle.column.proofs.Laws.{each-done, each-full, each-large}
-
-answer : PushedAll → Answer
-answer r = outcomeAnswer (r .outcome)
 
 each-told : (s : Sequence) (ts : List ℕ) → IsSound s → outcomeAnswer (eachOf s ts .outcome) ≡ eachAnswer s ts
 unfolding eachOf eachAnswer firstOf
@@ -47,7 +44,7 @@ push-all-told s list e = (e, ap (λ (r : PushedAll). outcomeAnswer (r .outcome))
   where
     go :
         (a b : Bool) → isSound (faultOf s) ≡ b
-        → outcomeAnswer (pick a (pick b (eachOf s (termsIn list)) (noneTaken s (Refused R.Sequence))) (noneTaken s (Refused R.Buffer)) .outcome)
+        → outcomeAnswer (pick a (pick b (eachOf s (termsIn list)) (took zero s (Refused R.Sequence))) (took zero s (Refused R.Buffer)) .outcome)
         ≡ pick (not a) (refused 5) (pick (not b) (refused 21) (eachAnswer s (termsIn list)))
     go false b h = refl
     go true false h = refl

@@ -21,39 +21,39 @@ use Rattle.sequence.specs.Limits.{maxTerms}
 use Rattle.sequence.specs.Rules.{IsSound, faultOf, isSound, longer, pushOf}
 use Rattle.sequence.proofs.Laws.{is-sound, push-done, push-full, push-large, sound-longer}
 use Rattle.column.specs.declared.PushedAll.{PushedAll}
-use Rattle.column.specs.Rules.{termsIn, noneTaken, onward, eachOf, pushAllOf}
+use Rattle.column.specs.Rules.{termsIn, took, onward, eachOf, pushAllOf}
 
 -- ---- one term
 
 -- n more were taken before
 abbrev pub later : ℕ → PushedAll → PushedAll
-later n r = record { sequence = r .sequence; taken = n + r .taken; outcome = r .outcome }
+later n r = took (n + r .taken) (r .sequence) (r .outcome)
 
 -- replies that differ in the form of their number alone
-counted : {s : Sequence} {o : Outcome} {n n' : ℕ} → n ≡ n' → _≡_ {A = PushedAll} (record { sequence = s; taken = n; outcome = o }) (record { sequence = s; taken = n'; outcome = o })
-counted {s} {o} e = λ i. record { sequence = s; taken = e i; outcome = o }
+counted : {s : Sequence} {o : Outcome} {n n' : ℕ} → n ≡ n' → took n s o ≡ took n' s o
+counted {s} {o} e = λ i. took (e i) s o
 
 module _ (s : Sequence) (t : ℕ) (ts : List ℕ) (sound : IsSound s) where
   pub each-done : s .count < maxTerms → t < s .modulus → eachOf s (t ∷ ts) ≡ onward Done (longer s t) (eachOf (longer s t) ts)
   unfolding eachOf
   each-done room small = ap (λ (p : Pushed). onward (p .outcome) (p .sequence) (eachOf (p .sequence) ts)) (push-done s t sound room small)
 
-  pub each-full : s .count ≡ maxTerms → eachOf s (t ∷ ts) ≡ noneTaken s (Refused R.Full)
+  pub each-full : s .count ≡ maxTerms → eachOf s (t ∷ ts) ≡ took zero s (Refused R.Full)
   unfolding eachOf
   each-full full = ap (λ (p : Pushed). onward (p .outcome) (p .sequence) (eachOf (p .sequence) ts)) (push-full s t sound full)
 
-  pub each-large : s .count < maxTerms → s .modulus ≤ t → eachOf s (t ∷ ts) ≡ noneTaken s (Refused (R.Term (s .count)))
+  pub each-large : s .count < maxTerms → s .modulus ≤ t → eachOf s (t ∷ ts) ≡ took zero s (Refused (R.Term (s .count)))
   unfolding eachOf
   each-large room large = ap (λ (p : Pushed). onward (p .outcome) (p .sequence) (eachOf (p .sequence) ts)) (push-large s t sound room large)
 
 -- ---- the whole column
 
 module _ (s : Sequence) (list : List ℕ) where
-  pub column-odd : (length list % 2 ≡ zero → ⊥) → pushAllOf s list ≡ noneTaken s (Refused R.Buffer)
+  pub column-odd : (length list % 2 ≡ zero → ⊥) → pushAllOf s list ≡ took zero s (Refused R.Buffer)
   unfolding pushAllOf
   column-odd h = rw (ne-eqb (length list % 2) 0 h)
 
-  pub column-unsound : length list % 2 ≡ zero → isSound (faultOf s) ≡ false → pushAllOf s list ≡ noneTaken s (Refused R.Sequence)
+  pub column-unsound : length list % 2 ≡ zero → isSound (faultOf s) ≡ false → pushAllOf s list ≡ took zero s (Refused R.Sequence)
   unfolding pushAllOf
   column-unsound h k = rw (eq-eqb (length list % 2) 0 h, k)
 
@@ -99,17 +99,18 @@ module _ (list : List ℕ) where
         }
 
     -- the reply where the next term is refused, or where there is none
-    ends : (o : Outcome) → whole ≡ later i (noneTaken s o) → _≡_ {A = PushedAll} (record { sequence = s; taken = i; outcome = o }) whole
+    ends : (o : Outcome) → whole ≡ later i (took zero s o) → took i s o ≡ whole
     ends o h = counted (let q : i ≡ i + 0 = omega arith in q) ∙ sym h
 
-    pub far-full : i < length list / 2 → s .count ≡ maxTerms → _≡_ {A = PushedAll} (record { sequence = s; taken = i; outcome = Refused R.Full }) whole
-    far-full h full = ends (Refused R.Full) (left-of _ h refl ∙ ap (later i) (each-full s _ _ (f .sound) full))
+    pub far-full : (n : ℕ) → n ≡ i → i < length list / 2 → s .count ≡ maxTerms → took n s (Refused R.Full) ≡ whole
+    far-full n e h full = counted e ∙ ends (Refused R.Full) (left-of _ h refl ∙ ap (later i) (each-full s _ _ (f .sound) full))
 
     pub far-large :
-        (t : ℕ) → i < length list / 2 → t ≡ cellAt list i → s .count < maxTerms → s .modulus ≤ t
-        → _≡_ {A = PushedAll} (record { sequence = s; taken = i; outcome = Refused (R.Term (s .count)) }) whole
-    far-large t h e room large = ends (Refused (R.Term (s .count))) (left-of t h e ∙ ap (later i) (each-large s t _ (f .sound) room large))
+        (t n k : ℕ) → n ≡ i → k ≡ s .count → i < length list / 2 → t ≡ cellAt list i → s .count < maxTerms → s .modulus ≤ t → took n s (Refused (R.Term k)) ≡ whole
+    far-large t n k en ek h e room large =
+        counted en ∙ ap (λ (x : ℕ). took i s (Refused (R.Term x))) ek
+        ∙ ends (Refused (R.Term (s .count))) (left-of t h e ∙ ap (later i) (each-large s t _ (f .sound) room large))
 
-    pub far-all : length list / 2 ≤ i → _≡_ {A = PushedAll} (record { sequence = s; taken = i; outcome = Done }) whole
+    pub far-all : length list / 2 ≤ i → took i s Done ≡ whole
     unfolding eachOf
     far-all h = ends Done (f .left ∙ ap (λ (ts : List ℕ). later i (eachOf s ts)) (drop-of-length-le (termsIn list) {i = i} (omega (arith, how-many))))

@@ -20,26 +20,26 @@ use Rattle.column.specs.declared.PushedAll.{PushedAll}
 abbrev pub termsIn : List ℕ → List ℕ
 termsIn list = cellsFrom list 0 (length list / 2)
 
--- none was taken
-abbrev pub noneTaken : Sequence → Outcome → PushedAll
-noneTaken s o = record { sequence = s; taken = zero; outcome = o }
+-- n terms were taken, the sequence is s then, and o says whether one is refused
+abbrev pub took : ℕ → Sequence → Outcome → PushedAll
+took n s o = record { sequence = s; taken = n; outcome = o }
 
 -- behind a push that left s: one taken and the rest of the column, or its end at a refused term
 abbrev pub onward : Outcome → Sequence → PushedAll → PushedAll
-onward Done s rest = record { sequence = rest .sequence; taken = suc (rest .taken); outcome = rest .outcome }
-onward (Refused r) s rest = noneTaken s (Refused r)
+onward Done s rest = took (suc (rest .taken)) (rest .sequence) (rest .outcome)
+onward (Refused r) s rest = took zero s (Refused r)
 
 -- the terms pushed singly, up to the first refused one
 unfoldable pub eachOf : Sequence → List ℕ → PushedAll
-eachOf s [] = noneTaken s Done
+eachOf s [] = took zero s Done
 eachOf s (t ∷ ts) = let p = pushOf s t in onward (p .outcome) (p .sequence) (eachOf (p .sequence) ts)
 
 -- 5 for an odd number of bytes, 21 even for an empty column, in this order; else what single pushes do
 unfoldable pub pushAllOf : Sequence → List ℕ → PushedAll
 pushAllOf s list =
     pick (eqb (length list % 2) 0)
-    (pick (isSound (faultOf s)) (eachOf s (termsIn list)) (noneTaken s (Refused R.Sequence)))
-    (noneTaken s (Refused R.Buffer))
+    (pick (isSound (faultOf s)) (eachOf s (termsIn list)) (took zero s (Refused R.Sequence)))
+    (took zero s (Refused R.Buffer))
 
 -- the same by number: for each term 22, 3 with the count at that moment
 unfoldable pub eachAnswer : Sequence → List ℕ → Answer

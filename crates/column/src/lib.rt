@@ -4,15 +4,27 @@ use sequence::Outcome;
 use sequence::Refusal;
 use sequence::Sequence;
 ghost use mathlib.Core.Path.{_≡_};
+ghost use Rattle.sequence.specs.declared.Outcome.the-variants.{Refused};
 ghost use Rattle.sequence.specs.Answers.{outcomeAnswer};
 ghost use Rattle.sequence.specs.Rules.{IsSound};
-ghost use Rattle.column.specs.Rules.{termsIn, eachOf, pushAllOf, pushAllAnswer};
+ghost use Rattle.column.specs.Rules.{termsIn, took, eachOf, pushAllOf, pushAllAnswer};
 
 // How many terms were taken, the refusal of the next one if any, and the sequence as it is then.
 pub struct PushedAll {
     pub sequence: Sequence,
     pub taken: usize,
     pub outcome: Outcome,
+}
+
+// A refusal that ends a column after n terms; the sequence is s then.
+fn ended(n: usize, s: Sequence, r: Refusal) -> PushedAll
+    ensures { λ x. ⌜ x ≡ took n s (Refused r) ⌝ }
+{
+    PushedAll {
+        sequence: s,
+        taken: n,
+        outcome: Outcome::Refused(r),
+    }
 }
 
 // The terms of a column pushed to a sound sequence, which stays sound: it is not inspected again.
@@ -26,19 +38,11 @@ fn push_each(s: Sequence, list: &[u8]) -> PushedAll
     while i < n {
         let count = longer.count;
         if count == MAX_TERMS {
-            return PushedAll {
-                sequence: longer,
-                taken: i,
-                outcome: Outcome::Refused(Refusal::Full),
-            };
+            return ended(i, longer, Refusal::Full);
         }
         let term = cells::cell(list, i);
-        if longer.modulus <= term {
-            return PushedAll {
-                sequence: longer,
-                taken: i,
-                outcome: Outcome::Refused(Refusal::Term(count)),
-            };
+        if s.modulus <= term {
+            return ended(i, longer, Refusal::Term(count));
         }
         longer.terms[count as usize] = term;
         longer.count = count + 1;
@@ -58,18 +62,10 @@ pub fn push_all(s: Sequence, list: &[u8]) -> PushedAll
     ensures { λ r. ⌜ outcomeAnswer (r .outcome) ≡ pushAllAnswer s (now (list .entry)) ⌝ }
 {
     if list.len() % 2 != 0 {
-        return PushedAll {
-            sequence: s,
-            taken: 0,
-            outcome: Outcome::Refused(Refusal::Buffer),
-        };
+        return ended(0, s, Refusal::Buffer);
     }
     if sequence::is_sound(s) {
         return push_each(s, list);
     }
-    PushedAll {
-        sequence: s,
-        taken: 0,
-        outcome: Outcome::Refused(Refusal::Sequence),
-    }
+    ended(0, s, Refusal::Sequence)
 }

@@ -24,7 +24,7 @@ use Rattle.sequence.specs.Limits.{maxModulus, maxTerms}
 use Rattle.sequence.specs.Rules.{IsSound, faultOf, isSound, openOf, longer, pushOf}
 use Rattle.sequence.proofs.Laws.{refused-done, sound-of, sound-longer}
 use Rattle.column.specs.declared.PushedAll.{PushedAll}
-use Rattle.column.specs.Rules.{termsIn, noneTaken, onward, eachOf, pushAllOf}
+use Rattle.column.specs.Rules.{termsIn, took, onward, eachOf, pushAllOf}
 use Rattle.column.proofs.Laws.{each-done, each-full, each-large, column-odd, column-unsound, column-each}
 use Rattle.guarantees.specs.Calls.{Call, push, pushAll, after, afterAll, taken}
 use Rattle.guarantees.specs.Columns.{Ends, all, full, large, Takes, afterFirst, EndsSingly, Singly, takenThen, StandsFor, EveryColumn}
@@ -34,7 +34,7 @@ use Rattle.guarantees.proofs.State.{taken-held}
 
 -- none of the terms is taken
 module _ (s : Sequence) (ts : List ℕ) (sound : IsSound s) where
-  none : (o : Outcome) → Ends s ts (noneTaken s o) → Takes s ts (noneTaken s o)
+  none : (o : Outcome) → Ends s ts (took zero s o) → Takes s ts (took zero s o)
   none o e =
       record {
         below = λ i h. absurd (not-suc-le-zero h);
@@ -184,6 +184,6 @@ every-column =
       stands = stands-for;
     }
   where
-    unsound : (s : Sequence) (list : List ℕ) → length list % 2 ≡ zero → (IsSound s → ⊥) → (b : Bool) → isSound (faultOf s) ≡ b → pushAllOf s list ≡ noneTaken s (Refused R.Sequence)
+    unsound : (s : Sequence) (list : List ℕ) → length list % 2 ≡ zero → (IsSound s → ⊥) → (b : Bool) → isSound (faultOf s) ≡ b → pushAllOf s list ≡ took zero s (Refused R.Sequence)
     unsound s list e h true k = absurd (h (sound-of s k))
     unsound s list e h false k = column-unsound s list e k

@@ -12,7 +12,7 @@ use Rattle.sequence.specs.declared.Outcome.the-variants.{Done, Refused}
 use Rattle.sequence.specs.Limits.{maxModulus, maxTerms}
 use Rattle.sequence.specs.Rules.{IsSound, openOf, pushOf}
 use Rattle.column.specs.declared.PushedAll.{PushedAll}
-use Rattle.column.specs.Rules.{termsIn, noneTaken, pushAllOf}
+use Rattle.column.specs.Rules.{termsIn, took, pushAllOf}
 use Rattle.guarantees.specs.Calls.{Call, push, pushAll, afterAll, taken}
 
 -- ---- by the terms: r is the reply to a column of terms ts that is pushed to the sound sequence s
@@ -71,8 +71,8 @@ pub record StandsFor (m : ℕ) (calls : List Call) (list : List ℕ) (rest : Lis
 
 pub record EveryColumn : Type 0 where
   -- 5 for an odd number of bytes, else 21 for a sequence that is not sound, also where the column is empty: none is taken, and the sequence is as it came
-  pub odd : (s : Sequence) (list : List ℕ) → (length list % 2 ≡ zero → ⊥) → pushAllOf s list ≡ noneTaken s (Refused R.Buffer)
-  pub unsound : (s : Sequence) (list : List ℕ) → length list % 2 ≡ zero → (IsSound s → ⊥) → pushAllOf s list ≡ noneTaken s (Refused R.Sequence)
+  pub odd : (s : Sequence) (list : List ℕ) → (length list % 2 ≡ zero → ⊥) → pushAllOf s list ≡ took zero s (Refused R.Buffer)
+  pub unsound : (s : Sequence) (list : List ℕ) → length list % 2 ≡ zero → (IsSound s → ⊥) → pushAllOf s list ≡ took zero s (Refused R.Sequence)
   -- any other, of whatever length
   pub takes : (s : Sequence) (list : List ℕ) → length list % 2 ≡ zero → IsSound s → Takes s (termsIn list) (pushAllOf s list)
   pub singly : (s : Sequence) (list : List ℕ) → length list % 2 ≡ zero → IsSound s → Singly s (termsIn list) (pushAllOf s list)
