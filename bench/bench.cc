@@ -3,7 +3,7 @@
 // Ours are calls with a full promise on every input, and each makes its checks: the register and the steps alone by crates/timing, records
 // and looking up by the C interface. The register is the public call: unlike the C versions it also checks the sequence and writes a and b
 // as cells. The steps alone start from the modulus: they include its prime power and a check of the terms. The trace is the register with
-// its working: every record is read, and their numbers are added up.
+// its working: every record is read, and their numbers are added up. A column is pushed to a fresh sequence by one call and by single ones.
 #include <NTL/lzz_pX.h>
 #include <diverthrone.h>
 #include <flint/flint.h>
@@ -22,6 +22,8 @@ extern "C" {
 bool timing_steps(uint32_t m, const uint32_t *s, size_t n, uint32_t *a, uint32_t *lens);
 uint32_t timing_register(uint32_t m, uint32_t count, const uint32_t *terms, uint8_t *a, size_t a_len, uint8_t *b, size_t b_len);
 uint64_t timing_trace(uint32_t m, uint32_t count, const uint32_t *terms, uint8_t *a, size_t a_len, uint8_t *b, size_t b_len);
+uint32_t timing_push_all(uint32_t m, const uint8_t *list, size_t len, uint32_t *held);
+uint32_t timing_pushes(uint32_t m, const uint8_t *list, size_t len, uint32_t *held);
 void plain_register(uint32_t m, const uint32_t *s, int n, uint32_t *a, uint32_t *b, uint32_t *lens);
 void tricks_register(uint32_t m, const uint32_t *s, int n, uint32_t *a, uint32_t *b, uint32_t *lens);
 uint64_t plain_read_line(const uint8_t *line, size_t len, uint8_t *query);
@@ -249,6 +251,42 @@ static void lines() {
     }
 }
 
+// A column to a fresh sequence in C: the terms held then, and their number.
+static uint32_t plain_column(uint32_t m, const uint8_t *list, size_t len, uint32_t *held) {
+    memset(held, 0, 512);
+    uint32_t count = 0;
+    for (size_t i = 0; i + 1 < len; i += 2) {
+        uint32_t t = list[i] + 256u * list[i + 1];
+        if (count == 128 || t >= m) break;
+        held[count++] = t;
+    }
+    return count;
+}
+
+static void columns() {
+    printf("push_all of so many terms to a fresh sequence: / as many single pushes, / C loop, us for push_all, us for single pushes\n");
+    static uint32_t ours[128], single[128], plain[128];
+    for (int n : {1, 16, 32, 64, 128}) {
+        prepare(4093, n);
+        auto list = [&](int j) { return queries[j] + 4; };
+        size_t len = 2 * (size_t)n;
+        for (int j = 0; j < POOL; j++) {
+            uint32_t k = timing_push_all(4093, list(j), len, ours);
+            if (k != timing_pushes(4093, list(j), len, single) || k != plain_column(4093, list(j), len, plain) || k != (uint32_t)n ||
+                memcmp(ours, single, 512) || memcmp(ours, plain, 512) || memcmp(ours, terms[j], 512)) {
+                printf("%d: DIFFER\n", n);
+                return;
+            }
+        }
+        volatile uint32_t sink = 0;
+        auto t = measure({{"push_all", [&](int j) { sink += timing_push_all(4093, list(j), len, ours); }},
+                          {"pushes", [&](int j) { sink += timing_pushes(4093, list(j), len, single); }},
+                          {"plain", [&](int j) { sink += plain_column(4093, list(j), len, plain); }}},
+                         601);
+        printf("  %3d  %.3f  %.2f  %.3f  %.3f\n", n, t[0] / t[1], t[0] / t[2], t[0], t[1]);
+    }
+}
+
 int main() {
     primes();
     composites();
@@ -256,4 +294,5 @@ int main() {
     growth();
     look_up();
     lines();
+    columns();
 }

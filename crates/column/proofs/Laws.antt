@@ -33,18 +33,26 @@ later n r = took (n + r .taken) (r .sequence) (r .outcome)
 counted : {s : Sequence} {o : Outcome} {n n' : ℕ} → n ≡ n' → took n s o ≡ took n' s o
 counted {s} {o} e = λ i. took (e i) s o
 
-module _ (s : Sequence) (t : ℕ) (ts : List ℕ) (sound : IsSound s) where
-  pub each-done : s .count < maxTerms → t < s .modulus → eachOf s (t ∷ ts) ≡ onward Done (longer s t) (eachOf (longer s t) ts)
-  unfolding eachOf
-  each-done room small = ap (λ (p : Pushed). onward (p .outcome) (p .sequence) (eachOf (p .sequence) ts)) (push-done s t sound room small)
+module _ (s : Sequence) (t : ℕ) (ts : List ℕ) where
+  -- what a push and the rest of the column make
+  behind : Pushed → PushedAll
+  behind p = onward (p .outcome) (p .sequence) (eachOf (p .sequence) ts)
 
-  pub each-full : s .count ≡ maxTerms → eachOf s (t ∷ ts) ≡ took zero s (Refused R.Full)
+  pub each-push : eachOf s (t ∷ ts) ≡ onward (pushOf s t .outcome) (pushOf s t .sequence) (eachOf (pushOf s t .sequence) ts)
   unfolding eachOf
-  each-full full = ap (λ (p : Pushed). onward (p .outcome) (p .sequence) (eachOf (p .sequence) ts)) (push-full s t sound full)
+  each-push = refl
 
-  pub each-large : s .count < maxTerms → s .modulus ≤ t → eachOf s (t ∷ ts) ≡ took zero s (Refused (R.Term (s .count)))
-  unfolding eachOf
-  each-large room large = ap (λ (p : Pushed). onward (p .outcome) (p .sequence) (eachOf (p .sequence) ts)) (push-large s t sound room large)
+  pub each-done : IsSound s → s .count < maxTerms → t < s .modulus → eachOf s (t ∷ ts) ≡ onward Done (longer s t) (eachOf (longer s t) ts)
+  unfolding behind
+  each-done sound room small = each-push ∙ ap behind (push-done s t sound room small)
+
+  pub each-full : IsSound s → s .count ≡ maxTerms → eachOf s (t ∷ ts) ≡ took zero s (Refused R.Full)
+  unfolding behind
+  each-full sound full = each-push ∙ ap behind (push-full s t sound full)
+
+  pub each-large : IsSound s → s .count < maxTerms → s .modulus ≤ t → eachOf s (t ∷ ts) ≡ took zero s (Refused (R.Term (s .count)))
+  unfolding behind
+  each-large sound room large = each-push ∙ ap behind (push-large s t sound room large)
 
 -- ---- the whole column
 

@@ -1,5 +1,6 @@
 // Entry points for the benchmark in bench/, and for nothing else: parts of the work that the C interface does not show by themselves.
 // Like the public calls they take any input.
+use sequence::Outcome;
 use sequence::Reported;
 use sequence::Sequence;
 use steps::CELLS;
@@ -14,8 +15,10 @@ ghost use Rattle.lists.specs.Sum.{sumTo};
 ghost use Rattle.lists.specs.Table.{at};
 ghost use Rattle.steps.specs.Sizes.{logWords};
 ghost use Rattle.steps.specs.Log.{unpacked};
+ghost use Rattle.sequence.specs.Rules.{openOf};
 ghost use Rattle.sequence.specs.Report.{reportOf, written, aBuffer, bBuffer};
 ghost use Rattle.sequence.specs.Trace.{traceOf};
+ghost use Rattle.column.specs.Rules.{termsIn, eachOf, pushAllOf};
 ghost use Rattle.timing.specs.Entries.{low, fits, rowCells, rowLengths, given, lengthOf, numbersOf, sumOf};
 
 // Whether every term is small enough for the products of the steps.
@@ -153,4 +156,52 @@ pub extern "C" fn timing_trace(
     let mut log = [0u64; LOG];
     let w = sequence::work(s, a, b, LOG, &mut log);
     add_up(&log, w.count)
+}
+
+// A column pushed to a fresh sequence by one call. The terms that are held then are written, and the reply is their number.
+// Rejected: one that writes none; one that replies the number of cells.
+#[no_mangle]
+pub extern "C" fn timing_push_all(m: u32, list: &[u8], terms: &mut [u32; TERMS]) -> u32
+    ensures { λ r. ⌜ r ≡ pushAllOf (openOf m .sequence) (now (list .entry)) .sequence .count ⌝ }
+    ensures { λ _. ⌜ now (terms .exit) ≡ pushAllOf (openOf m .sequence) (now (list .entry)) .sequence .terms ⌝ }
+{
+    let o = sequence::open(m);
+    let p = column::push_all(o.sequence, list);
+    let s = p.sequence;
+    let t = s.terms;
+    *terms = t;
+    s.count
+}
+
+// The terms of a column pushed by a call each, up to the first refused one.
+fn push_singly(s: Sequence, list: &[u8]) -> Sequence
+    ensures { λ r. ⌜ r ≡ eachOf s (termsIn (now (list .entry))) .sequence ⌝ }
+{
+    let n = list.len() / 2;
+    let mut longer = s;
+    let mut i: usize = 0;
+    while i < n {
+        let p = sequence::push(longer, cells::cell(list, i));
+        longer = p.sequence;
+        let o = p.outcome;
+        match o {
+            Outcome::Done => i += 1,
+            Outcome::Refused(_) => return longer,
+        }
+    }
+    longer
+}
+
+// The same by single pushes.
+// Rejected: one that pushes the whole list in one call and replies 0; one that stops before the last term.
+#[no_mangle]
+pub extern "C" fn timing_pushes(m: u32, list: &[u8], terms: &mut [u32; TERMS]) -> u32
+    ensures { λ r. ⌜ r ≡ eachOf (openOf m .sequence) (termsIn (now (list .entry))) .sequence .count ⌝ }
+    ensures { λ _. ⌜ now (terms .exit) ≡ eachOf (openOf m .sequence) (termsIn (now (list .entry))) .sequence .terms ⌝ }
+{
+    let o = sequence::open(m);
+    let s = push_singly(o.sequence, list);
+    let t = s.terms;
+    *terms = t;
+    s.count
 }
