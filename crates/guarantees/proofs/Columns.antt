@@ -3,17 +3,21 @@
 use mathlib.Core.Path.{_≡_, refl, sym, ap, _∙_, subst}
 use mathlib.Core.Bool.{Bool, true, false}
 use mathlib.Core.Logic.{_⊎_, inl, inr}
-use mathlib.Core.List.{List, [], _∷_, _++_, map}
-use Prim.Native.Nat.{ℕ, zero, suc, _+_, _%_, _≤_, _<_}
+use mathlib.Core.List.{List, [], _∷_, _++_, map, append-nil}
+use Prim.Native.Nat.{ℕ, zero, suc, _+_, _/_, _%_, _≤_, _<_}
 use native.Mathlib.Nat.{not-suc-le-zero}
 use native.Mathlib.Decide.{ℕ-discrete}
 use native.Mathlib.Omega.{arith}
 use lib.Dec.{leb, eqb}
 use lib.ListN.{length, take}
+use lib.Seq.{take-all}
 use lib.Arith.{lt-of-le-ne}
 use Rattle.lists.specs.Choice.{pick}
 use Rattle.lists.specs.Table.{at}
 use Rattle.lists.proofs.Search.{lt-or-le}
+use Rattle.lists.proofs.Table.{is-tabulate}
+use Rattle.cells.specs.Cell.{cellAt, bytesOf}
+use Rattle.cells.proofs.Laws.{length-bytesOf, cellAt-bytesOf}
 use Rattle.sequence.specs.declared.Sequence.{Sequence}
 use Rattle.sequence.specs.declared.Refusal.{Refusal}
 use Rattle.sequence.specs.declared.Refusal.the-variants as R
@@ -28,7 +32,7 @@ use Rattle.column.specs.Rules.{termsIn, took, onward, eachOf, pushAllOf}
 use Rattle.column.proofs.Laws.{each-done, each-full, each-large, column-odd, column-unsound, column-each}
 use Rattle.guarantees.specs.Calls.{Call, push, pushAll, after, afterAll, taken}
 use Rattle.guarantees.specs.Columns.{Ends, all, full, large, Takes, afterFirst, EndsSingly, Singly, takenThen, StandsFor, EveryColumn}
-use Rattle.guarantees.proofs.State.{taken-held}
+use Rattle.guarantees.proofs.State.{Good, holding, holding-sound, good-none, opened, taken-held, all-pushed}
 
 -- ---- by the terms
 
@@ -174,6 +178,42 @@ stands-for m least most calls list rest =
         ∙ ap (λ (x : Sequence). afterAll x rest) (column-first s list)
         ∙ sym (after-append (openOf m .sequence) calls (pushes ++ rest) ∙ after-append s pushes rest)
 
+-- ---- a whole column
+
+-- the terms of a column are those that were written
+terms-back : (ts : List ℕ) → ((j : ℕ) → j < length ts → at ts j < 65536) → termsIn (bytesOf ts) ≡ ts
+terms-back ts small =
+    sym
+    (is-tabulate (length (bytesOf ts) / 2) (λ j. cellAt (bytesOf ts) (0 + j)) 0 ts (omega (arith, length-bytesOf ts))
+    (λ j h. sym (cellAt-bytesOf ts j (small j (omega (arith, length-bytesOf ts)))) ∙ ap (cellAt (bytesOf ts)) (let e : j ≡ 0 + j = omega arith in e)))
+
+module _ (m : ℕ) (least : 2 ≤ m) (most : m ≤ maxModulus) (ts : List ℕ) (size : length ts ≤ maxTerms) (below : (j : ℕ) → j < length ts → at ts j < m) where
+  back : termsIn (bytesOf ts) ≡ ts
+  back = terms-back ts (λ j h. omega (arith, below j h))
+
+  -- no term is refused
+  all-taken : {r : PushedAll} → Ends (holding m []) ts r → r .taken ≡ length ts
+  all-taken (all e o) = e
+  all-taken (full l e o) = omega arith
+  all-taken (large l h b o) = omega (arith, below _ l)
+
+  number : takenThen m [] (bytesOf ts) ≡ length ts
+  unfolding afterAll
+  number =
+      let even : length (bytesOf ts) % 2 ≡ zero = omega (arith, length-bytesOf ts) in
+      let sound = holding-sound m least most [] (good-none m least most) in
+      ap (λ (s : Sequence). pushAllOf s (bytesOf ts) .taken) (opened m least most)
+      ∙ ap (λ (r : PushedAll). r .taken) (column-each (holding m []) (bytesOf ts) even sound ∙ ap (eachOf (holding m [])) back)
+      ∙ all-taken (each-takes (holding m []) ts sound .ends)
+
+  whole : taken m (pushAll (bytesOf ts) ∷ []) ≡ ts
+  whole =
+      stands-for m least most [] (bytesOf ts) [] .terms
+      ∙ ap (taken m) (append-nil (map push (take (takenThen m [] (bytesOf ts)) (termsIn (bytesOf ts)))))
+      ∙ ap (λ (us : List ℕ). taken m (map push (take (takenThen m [] (bytesOf ts)) us))) back
+      ∙ ap (λ (us : List ℕ). taken m (map push us)) (take-all (takenThen m [] (bytesOf ts)) ts (omega (arith, number)))
+      ∙ all-pushed m least most ts (record { size = size; below = below })
+
 pub every-column : EveryColumn
 every-column =
     record {
@@ -182,6 +222,7 @@ every-column =
       takes = λ s list e h. subst (Takes s (termsIn list)) (sym (column-each s list e h)) (each-takes s (termsIn list) h);
       singly = λ s list e h. subst (Singly s (termsIn list)) (sym (column-each s list e h)) (each-singly s (termsIn list));
       stands = stands-for;
+      whole = whole;
     }
   where
     unsound : (s : Sequence) (list : List ℕ) → length list % 2 ≡ zero → (IsSound s → ⊥) → (b : Bool) → isSound (faultOf s) ≡ b → pushAllOf s list ≡ took zero s (Refused R.Sequence)

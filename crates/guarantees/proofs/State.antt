@@ -101,7 +101,7 @@ module _ (m : ℕ) (least : 2 ≤ m) (most : m ≤ maxModulus) where
       kept : {x y : Pushed} → x ≡ y → x .sequence ≡ y .sequence
       kept = ap (λ (x : Pushed). x .sequence)
 
-  good-none : Good m []
+  pub good-none : Good m []
   good-none = record { size = omega arith; below = λ j h. absurd (not-suc-le-zero h) }
 
   good-more : (ts : List ℕ) (t : ℕ) → Good m ts → Good m (takes m ts (push t))
@@ -179,7 +179,7 @@ module _ (m : ℕ) (least : 2 ≤ m) (most : m ≤ maxModulus) where
   pub opens : openOf m .outcome ≡ Done
   opens = ap (λ (x : Opened). x .outcome) (open-done m least most)
 
-  opened : openOf m .sequence ≡ holding m []
+  pub opened : openOf m .sequence ≡ holding m []
   opened = ap (λ (x : Opened). x .sequence) (open-done m least most)
 
   -- the sequence after the whole list

@@ -2,10 +2,11 @@
 -- Assumes nothing.
 use mathlib.Core.Path.{_≡_}
 use mathlib.Core.Logic.{_⊎_}
-use mathlib.Core.List.{List, _∷_, _++_, map}
+use mathlib.Core.List.{List, [], _∷_, _++_, map}
 use Prim.Native.Nat.{ℕ, zero, _+_, _%_, _≤_, _<_}
 use lib.ListN.{length, take}
 use Rattle.lists.specs.Table.{at}
+use Rattle.cells.specs.Cell.{bytesOf}
 use Rattle.sequence.specs.declared.Sequence.{Sequence}
 use Rattle.sequence.specs.declared.Refusal.the-variants as R
 use Rattle.sequence.specs.declared.Outcome.the-variants.{Done, Refused}
@@ -77,3 +78,7 @@ pub record EveryColumn : Type 0 where
   pub takes : (s : Sequence) (list : List ℕ) → length list % 2 ≡ zero → IsSound s → Takes s (termsIn list) (pushAllOf s list)
   pub singly : (s : Sequence) (list : List ℕ) → length list % 2 ≡ zero → IsSound s → Singly s (termsIn list) (pushAllOf s list)
   pub stands : (m : ℕ) → 2 ≤ m → m ≤ maxModulus → (calls : List Call) (list : List ℕ) (rest : List Call) → StandsFor m calls list rest
+  -- at most 128 terms, each below m, are taken whole as one column of cells
+  pub whole :
+      (m : ℕ) → 2 ≤ m → m ≤ maxModulus → (ts : List ℕ) → length ts ≤ maxTerms → ((j : ℕ) → j < length ts → at ts j < m)
+      → taken m (pushAll (bytesOf ts) ∷ []) ≡ ts
