@@ -248,7 +248,7 @@ fn with_single_takings(script: &[u8]) -> (Vec<u8>, usize) {
             continue;
         }
         replaced += 1;
-        let offered = if size % 2 == 0 { cells(&call.payload) } else { Vec::new() };
+        let offered = if call.payload.len() % 2 == 0 { cells(&call.payload) } else { Vec::new() };
         for term in offered {
             let (operation, number) = (Operation::Push, term as u32);
             let taking = Call { operation, number, lengths: [0; 3], payload: vec![], ..call };

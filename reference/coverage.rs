@@ -47,7 +47,7 @@ fn count<T: Ord>(tally: &mut Tally<T>, thing: T) {
 /// The scripts, slips and lines of the seeds, each with the text that they lead to.
 pub fn met(group: &mut Group) {
     let script = [
-        scenarios::calls(11, 500),
+        scenarios::calls(11, 700),
         scenarios::candidates(12, 1000),
         scenarios::catalogues(14, 300),
         linecalls(15, 2000),

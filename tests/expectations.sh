@@ -12,7 +12,7 @@ mkdir -p "$output/replay" "$output/listing" "$output/working" "$output/ask"
 
 # Lists of calls, candidates, catalogues, typed lines: each operation and each refusal that it has.
 {
-    "$reference" calls 11 500
+    "$reference" calls 11 700
     "$reference" candidates 12 1000
     "$reference" catalogues 14 300
     "$reference" linecalls 15 2000

@@ -18,14 +18,14 @@
 #include <sys/mman.h>
 #include <unistd.h>
 
-enum { VERIFY = 4, GENERATE = 5, SYNTHESIZE = 6, LOOK_UP = 7, FORGE = 8, READ_LINE = 10 };
+enum { VERIFY = 4, GENERATE = 5, SYNTHESIZE = 6, LOOK_UP = 7, FORGE = 8, READ_LINE = 10, PUSH_ALL = 11 };
 enum { HEADER = 16, WIDEST = 65535, PAINT = 0xC3, NEAR = 1024 };
 enum { QUERY = DIVERTHRONE_QUERY_BYTES, A = DIVERTHRONE_A_BYTES, B = DIVERTHRONE_B_BYTES, RECORD = DIVERTHRONE_RECORD_BYTES };
 enum { LENGTH_AT = DIVERTHRONE_LENGTH_PLACE, A_AT = DIVERTHRONE_A_PLACE, B_AT = DIVERTHRONE_B_PLACE };
 
 static const char *const names[] = {"open",       "push",    "register", "profile", "verify",   "generate",
-                                    "synthesize", "look_up", "forge",    "trace",   "read_line"};
-static const size_t input_counts[] = {0, 0, 0, 0, 3, 2, 1, 2, 1, 0, 1};
+                                    "synthesize", "look_up", "forge",    "trace",   "read_line", "push_all"};
+static const size_t input_counts[] = {0, 0, 0, 0, 3, 2, 1, 2, 1, 0, 1, 1};
 
 /* One call of a script; the inputs come first among its buffers, a buffer lent for writing follows them. */
 struct call {
@@ -73,7 +73,7 @@ static int read_call(struct call *c) {
     if (got == 0) return 0;
     if (got < HEADER) broken("cut short");
     snprintf(unknown, sizeof unknown, "unknown %u", (unsigned)h[0]);
-    if (h[0] > READ_LINE) broken(unknown);
+    if (h[0] > PUSH_ALL) broken(unknown);
     c->op = h[0], c->fill = h[1], c->number = number_at(h + 4, 4), c->l = number_at(h + 14, 2);
     for (size_t i = 0; i < 3; i++) c->len[i] = number_at(h + 8 + 2 * i, 2);
     if (c->op == FORGE && c->len[0] != QUERY) broken("bad forge");

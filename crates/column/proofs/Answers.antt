@@ -1,6 +1,6 @@
 -- Laws of answers: for a column the numbers in the order of their tests are those of the replies.
 -- Assumes nothing.
-use mathlib.Core.Path.{_≡_, refl, sym, ap, _∙_}
+use mathlib.Core.Path.{_≡_, refl, ap, _∙_}
 use mathlib.Core.Bool.{Bool, true, false, not}
 use mathlib.Core.Logic.{_⊎_, inl, inr}
 use mathlib.Core.List.{List, [], _∷_}
@@ -14,9 +14,9 @@ use Rattle.lists.specs.Choice.{pick}
 use Rattle.lists.proofs.Search.{lt-or-le}
 use Rattle.sequence.specs.declared.Sequence.{Sequence}
 use Rattle.sequence.specs.declared.Refusal.the-variants as R
-use Rattle.sequence.specs.declared.Outcome.the-variants.{Done, Refused}
+use Rattle.sequence.specs.declared.Outcome.the-variants.{Refused}
 use Rattle.sequence.specs.Limits.{maxTerms}
-use Rattle.sequence.specs.Answers.{Answer, granted, refused, refusedAt, outcomeAnswer, firstOf}
+use Rattle.sequence.specs.Answers.{refused, refusedAt, outcomeAnswer, firstOf}
 use Rattle.sequence.specs.Rules.{faultOf, isSound, IsSound, longer}
 use Rattle.sequence.proofs.Laws.{sound-of, sound-longer}
 use Rattle.column.specs.declared.PushedAll.{PushedAll}

@@ -1,8 +1,8 @@
 -- Laws of columns: what one term more does, and how far the terms have been pushed.
 -- Assumes nothing.
-use mathlib.Core.Path.{_≡_, refl, sym, ap, _∙_, subst}
+use mathlib.Core.Path.{_≡_, refl, sym, ap, _∙_}
 use mathlib.Core.Bool.{false}
-use mathlib.Core.List.{List, [], _∷_}
+use mathlib.Core.List.{List, _∷_}
 use Prim.Native.Nat.{ℕ, zero, suc, _+_, _/_, _%_, _≤_, _<_}
 use native.Mathlib.Omega.{arith}
 use lib.ListN.{length, drop, drop-of-length-le}
@@ -12,7 +12,6 @@ use Rattle.lists.proofs.Table.{length-tabulate}
 use Rattle.cells.specs.Cell.{cellAt}
 use Rattle.cells.proofs.Laws.{at-cells}
 use Rattle.sequence.specs.declared.Sequence.{Sequence}
-use Rattle.sequence.specs.declared.Refusal.{Refusal}
 use Rattle.sequence.specs.declared.Refusal.the-variants as R
 use Rattle.sequence.specs.declared.Outcome.{Outcome}
 use Rattle.sequence.specs.declared.Outcome.the-variants.{Done, Refused}

@@ -9,7 +9,7 @@ ghost use Rattle.sequence.specs.Answers.{outcomeAnswer};
 ghost use Rattle.sequence.specs.Rules.{IsSound};
 ghost use Rattle.column.specs.Rules.{termsIn, took, eachOf, pushAllOf, pushAllAnswer};
 
-// How many terms were taken, the refusal of the next one if any, and the sequence as it is then.
+// How many terms were taken, the refusal if any, and the sequence as it is then.
 pub struct PushedAll {
     pub sequence: Sequence,
     pub taken: usize,

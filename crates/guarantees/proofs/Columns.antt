@@ -3,7 +3,7 @@
 use mathlib.Core.Path.{_≡_, refl, sym, ap, _∙_, subst}
 use mathlib.Core.Bool.{Bool, true, false}
 use mathlib.Core.Logic.{_⊎_, inl, inr}
-use mathlib.Core.List.{List, [], _∷_, _++_, map, append-nil}
+use mathlib.Core.List.{List, [], _∷_, _++_, map}
 use Prim.Native.Nat.{ℕ, zero, suc, _+_, _/_, _%_, _≤_, _<_}
 use native.Mathlib.Nat.{not-suc-le-zero}
 use native.Mathlib.Decide.{ℕ-discrete}
@@ -19,7 +19,6 @@ use Rattle.lists.proofs.Table.{is-tabulate}
 use Rattle.cells.specs.Cell.{cellAt, bytesOf}
 use Rattle.cells.proofs.Laws.{length-bytesOf, cellAt-bytesOf}
 use Rattle.sequence.specs.declared.Sequence.{Sequence}
-use Rattle.sequence.specs.declared.Refusal.{Refusal}
 use Rattle.sequence.specs.declared.Refusal.the-variants as R
 use Rattle.sequence.specs.declared.Outcome.{Outcome}
 use Rattle.sequence.specs.declared.Outcome.the-variants.{Done, Refused}
@@ -30,9 +29,9 @@ use Rattle.sequence.proofs.Laws.{refused-done, sound-of, sound-longer}
 use Rattle.column.specs.declared.PushedAll.{PushedAll}
 use Rattle.column.specs.Rules.{termsIn, took, onward, eachOf, pushAllOf}
 use Rattle.column.proofs.Laws.{each-done, each-full, each-large, column-odd, column-unsound, column-each}
-use Rattle.guarantees.specs.Calls.{Call, push, pushAll, after, afterAll, taken}
-use Rattle.guarantees.specs.Columns.{Ends, all, full, large, Takes, afterFirst, EndsSingly, Singly, takenThen, StandsFor, EveryColumn}
-use Rattle.guarantees.proofs.State.{Good, holding, holding-sound, good-none, opened, taken-held, all-pushed}
+use Rattle.guarantees.specs.Calls.{Call, push, pushAll, after, afterAll, takenFrom, taken}
+use Rattle.guarantees.specs.Columns.{Ends, all, full, large, Takes, afterFirst, EndsSingly, Singly, takenThen, Joins, StandsFor, EveryColumn}
+use Rattle.guarantees.proofs.State.{taken-held, after-sound, after-modulus, after-count, column-joined}
 
 -- ---- by the terms
 
@@ -192,27 +191,24 @@ module _ (m : ℕ) (least : 2 ≤ m) (most : m ≤ maxModulus) (ts : List ℕ) (
   back = terms-back ts (λ j h. omega (arith, below j h))
 
   -- no term is refused
-  all-taken : {r : PushedAll} → Ends (holding m []) ts r → r .taken ≡ length ts
+  all-taken : {r : PushedAll} → Ends (openOf m .sequence) ts r → r .taken ≡ length ts
+  unfolding afterAll takenFrom
   all-taken (all e o) = e
-  all-taken (full l e o) = omega arith
-  all-taken (large l h b o) = omega (arith, below _ l)
+  all-taken (full l e o) = omega (arith, after-count m least most [])
+  all-taken (large l h b o) = omega (arith, below _ l, after-modulus m least most [])
 
   number : takenThen m [] (bytesOf ts) ≡ length ts
   unfolding afterAll
   number =
       let even : length (bytesOf ts) % 2 ≡ zero = omega (arith, length-bytesOf ts) in
-      let sound = holding-sound m least most [] (good-none m least most) in
-      ap (λ (s : Sequence). pushAllOf s (bytesOf ts) .taken) (opened m least most)
-      ∙ ap (λ (r : PushedAll). r .taken) (column-each (holding m []) (bytesOf ts) even sound ∙ ap (eachOf (holding m [])) back)
-      ∙ all-taken (each-takes (holding m []) ts sound .ends)
+      let s = openOf m .sequence in
+      let sound = after-sound m least most [] in
+      ap (λ (r : PushedAll). r .taken) (column-each s (bytesOf ts) even sound ∙ ap (eachOf s) back)
+      ∙ all-taken (each-takes s ts sound .ends)
 
   whole : taken m (pushAll (bytesOf ts) ∷ []) ≡ ts
-  whole =
-      stands-for m least most [] (bytesOf ts) [] .terms
-      ∙ ap (taken m) (append-nil (map push (take (takenThen m [] (bytesOf ts)) (termsIn (bytesOf ts)))))
-      ∙ ap (λ (us : List ℕ). taken m (map push (take (takenThen m [] (bytesOf ts)) us))) back
-      ∙ ap (λ (us : List ℕ). taken m (map push us)) (take-all (takenThen m [] (bytesOf ts)) ts (omega (arith, number)))
-      ∙ all-pushed m least most ts (record { size = size; below = below })
+  unfolding takenFrom
+  whole = column-joined m least most [] (bytesOf ts) ∙ ap (take (takenThen m [] (bytesOf ts))) back ∙ take-all (takenThen m [] (bytesOf ts)) ts (omega (arith, number))
 
 pub every-column : EveryColumn
 every-column =
@@ -221,6 +217,8 @@ every-column =
       unsound = λ s list e h. unsound s list e h (isSound (faultOf s)) refl;
       takes = λ s list e h. subst (Takes s (termsIn list)) (sym (column-each s list e h)) (each-takes s (termsIn list) h);
       singly = λ s list e h. subst (Singly s (termsIn list)) (sym (column-each s list e h)) (each-singly s (termsIn list));
+      joins = λ m least most calls list.
+          record { sound = after-sound m least most calls; count = after-count m least most calls; joined = column-joined m least most calls list };
       stands = stands-for;
       whole = whole;
     }

@@ -17,6 +17,7 @@ use Rattle.lists.specs.Choice.{pick}
 use Rattle.lists.specs.Table.{at}
 use Rattle.lists.proofs.Search.{lt-or-le}
 use Rattle.sequence.specs.declared.Sequence.{Sequence}
+use Rattle.sequence.specs.declared.Outcome.{Outcome}
 use Rattle.sequence.specs.declared.Outcome.the-variants.{Done}
 use Rattle.sequence.specs.declared.Opened.{Opened}
 use Rattle.sequence.specs.declared.Pushed.{Pushed}
@@ -24,7 +25,7 @@ use Rattle.sequence.specs.Limits.{maxModulus, maxTerms}
 use Rattle.sequence.specs.Rules.{openOf, pushOf, faultOf, isSound, IsSound}
 use Rattle.sequence.proofs.Laws.{is-sound, open-done, push-done, push-full, push-large}
 use Rattle.column.specs.declared.PushedAll.{PushedAll}
-use Rattle.column.specs.Rules.{termsIn, eachOf, pushAllOf}
+use Rattle.column.specs.Rules.{termsIn, took, onward, eachOf, pushAllOf}
 use Rattle.column.proofs.Laws.{each-done, each-full, each-large, column-odd, column-each}
 use Rattle.guarantees.specs.Calls.{Call, push, pushAll, register, profile, trace, afterAll, takesEach, takes, takenFrom, taken}
 
@@ -101,7 +102,7 @@ module _ (m : ℕ) (least : 2 ≤ m) (most : m ≤ maxModulus) where
       kept : {x y : Pushed} → x ≡ y → x .sequence ≡ y .sequence
       kept = ap (λ (x : Pushed). x .sequence)
 
-  pub good-none : Good m []
+  good-none : Good m []
   good-none = record { size = omega arith; below = λ j h. absurd (not-suc-le-zero h) }
 
   good-more : (ts : List ℕ) (t : ℕ) → Good m ts → Good m (takes m ts (push t))
@@ -125,42 +126,51 @@ module _ (m : ℕ) (least : 2 ≤ m) (most : m ≤ maxModulus) where
                 j (subst (λ (z : ℕ). j < z) l i);
           }
 
-  -- what a column's terms do to the sequence and to the terms
-  abbrev Both : Sequence → List ℕ → Type 0
-  Both s ts = (s ≡ holding m ts) × Good m ts
+  -- a column of terms us, pushed where ts are held: its reply is r, and vs are held then
+  record Left (ts us : List ℕ) (r : PushedAll) (vs : List ℕ) : Type 0 where
+    holds : r .sequence ≡ holding m vs
+    good : Good m vs
+    -- those that are taken join at the end, in order
+    joined : vs ≡ ts ++ take (r .taken) us
 
-  each-for : (us ts : List ℕ) → Good m ts → Both (eachOf (holding m ts) us .sequence) (takesEach m ts us)
+  -- none of them is taken
+  left-none : (ts us : List ℕ) (o : Outcome) → Good m ts → Left ts us (took 0 (holding m ts) o) ts
+  left-none ts us o g = record { holds = refl; good = g; joined = sym (append-nil ts) }
+
+  each-for : (us ts : List ℕ) → Good m ts → Left ts us (eachOf (holding m ts) us) (takesEach m ts us)
   unfolding eachOf takesEach
-  each-for [] ts g = (refl, g)
+  each-for [] ts g = left-none ts [] Done g
   each-for (t ∷ us) ts g = go (lt-or-le t m) (lt-or-le (length ts) maxTerms) (λ h. each-for us (ts ++ (t ∷ [])) h)
     where
       s : IsSound (holding m ts)
       s = holding-sound ts g
 
-      kept : {x y : PushedAll} → x ≡ y → x .sequence ≡ y .sequence
-      kept = ap (λ (x : PushedAll). x .sequence)
+      -- the reply is this one
+      by : {r r' : PushedAll} {vs : List ℕ} → r ≡ r' → Left ts (t ∷ us) r' vs → Left ts (t ∷ us) r vs
+      by {vs = vs} e = subst (λ (x : PushedAll). Left ts (t ∷ us) x vs) (sym e)
+
+      full : maxTerms ≤ length ts → Left ts (t ∷ us) (eachOf (holding m ts) (t ∷ us)) ts
+      full h = by (each-full (holding m ts) t us s (omega (arith, g .size))) (left-none ts (t ∷ us) _ g)
 
       go :
           (t < m) ⊎ (m ≤ t) → (length ts < maxTerms) ⊎ (maxTerms ≤ length ts)
-          → (Good m (ts ++ (t ∷ [])) → Both (eachOf (holding m (ts ++ (t ∷ []))) us .sequence) (takesEach m (ts ++ (t ∷ [])) us))
-          → Both (eachOf (holding m ts) (t ∷ us) .sequence) (takesEach m ts (t ∷ us))
+          → (Good m (ts ++ (t ∷ [])) → Left (ts ++ (t ∷ [])) us (eachOf (holding m (ts ++ (t ∷ []))) us) (takesEach m (ts ++ (t ∷ [])) us))
+          → Left ts (t ∷ us) (eachOf (holding m ts) (t ∷ us)) (takesEach m ts (t ∷ us))
       go (inl k) (inl h) ih =
           let rest = ih (rw (lt-ltb t m k, lt-ltb (length ts) maxTerms h) at (good-more ts t g)) in
           rw (lt-ltb t m k, lt-ltb (length ts) maxTerms h)
-          (kept (each-done (holding m ts) t us s h k) ∙ ap (λ (z : Sequence). eachOf z us .sequence) (more ts t h) ∙ rest .0, rest .1)
-      go (inl k) (inr h) ih = rw (lt-ltb t m k, le-ltb (length ts) maxTerms h) (kept (each-full (holding m ts) t us s (omega (arith, g .size))), g)
-      go (inr k) (inl h) ih = rw (le-ltb t m k) (kept (each-large (holding m ts) t us s h k), g)
-      go (inr k) (inr h) ih = rw (le-ltb t m k) (kept (each-full (holding m ts) t us s (omega (arith, g .size))), g)
+          (by (each-done (holding m ts) t us s h k ∙ ap (λ (z : Sequence). onward Done z (eachOf z us)) (more ts t h))
+          (record { holds = rest .holds; good = rest .good; joined = rest .joined ∙ append-assoc ts (t ∷ []) _ }))
+      go (inl k) (inr h) ih = rw (lt-ltb t m k, le-ltb (length ts) maxTerms h) (full h)
+      go (inr k) (inl h) ih = rw (le-ltb t m k) (by (each-large (holding m ts) t us s h k) (left-none ts (t ∷ us) _ g))
+      go (inr k) (inr h) ih = rw (le-ltb t m k) (full h)
 
-  column-for : (ts list : List ℕ) → Good m ts → Both (pushAllOf (holding m ts) list .sequence) (takes m ts (pushAll list))
+  column-for : (ts list : List ℕ) → Good m ts → Left ts (termsIn list) (pushAllOf (holding m ts) list) (takes m ts (pushAll list))
   column-for ts list g = go (ℕ-discrete (length list % 2) 0)
     where
-      kept : {x y : PushedAll} → x ≡ y → x .sequence ≡ y .sequence
-      kept = ap (λ (x : PushedAll). x .sequence)
-
-      go : Dec (length list % 2 ≡ 0) → Both (pushAllOf (holding m ts) list .sequence) (pick (eqb (length list % 2) 0) (takesEach m ts (termsIn list)) ts)
-      go (yes e) = let f = each-for (termsIn list) ts g in rw (eq-eqb _ _ e) (kept (column-each (holding m ts) list e (holding-sound ts g)) ∙ f .0, f .1)
-      go (no f) = rw (ne-eqb _ _ f) (kept (column-odd (holding m ts) list f), g)
+      go : Dec (length list % 2 ≡ 0) → Left ts (termsIn list) (pushAllOf (holding m ts) list) (pick (eqb (length list % 2) 0) (takesEach m ts (termsIn list)) ts)
+      go (yes e) = rw (eq-eqb _ _ e) (subst (λ (x : PushedAll). Left ts (termsIn list) x (takesEach m ts (termsIn list))) (sym (column-each (holding m ts) list e (holding-sound ts g))) (each-for (termsIn list) ts g))
+      go (no f) = rw (ne-eqb _ _ f) (subst (λ (x : PushedAll). Left ts (termsIn list) x ts) (sym (column-odd (holding m ts) list f)) (left-none ts (termsIn list) _ g))
 
   after-from : (cs : List Call) (ts : List ℕ) → Good m ts → (afterAll (holding m ts) cs ≡ holding m (takenFrom m ts cs)) × Good m (takenFrom m ts cs)
   unfolding afterAll takenFrom
@@ -170,8 +180,8 @@ module _ (m : ℕ) (least : 2 ≤ m) (most : m ≤ maxModulus) where
       (ap (λ (z : Sequence). afterAll z cs) (push-for ts t g) ∙ h .0, h .1)
   after-from (pushAll list ∷ cs) ts g =
       let f = column-for ts list g in
-      let h = after-from cs (takes m ts (pushAll list)) (f .1) in
-      (ap (λ (z : Sequence). afterAll z cs) (f .0) ∙ h .0, h .1)
+      let h = after-from cs (takes m ts (pushAll list)) (f .good) in
+      (ap (λ (z : Sequence). afterAll z cs) (f .holds) ∙ h .0, h .1)
   after-from (register a b ∷ cs) ts g = after-from cs ts g
   after-from (profile c ∷ cs) ts g = after-from cs ts g
   after-from (trace a b sheet ∷ cs) ts g = after-from cs ts g
@@ -179,7 +189,7 @@ module _ (m : ℕ) (least : 2 ≤ m) (most : m ≤ maxModulus) where
   pub opens : openOf m .outcome ≡ Done
   opens = ap (λ (x : Opened). x .outcome) (open-done m least most)
 
-  pub opened : openOf m .sequence ≡ holding m []
+  opened : openOf m .sequence ≡ holding m []
   opened = ap (λ (x : Opened). x .sequence) (open-done m least most)
 
   -- the sequence after the whole list
@@ -192,6 +202,31 @@ module _ (m : ℕ) (least : 2 ≤ m) (most : m ≤ maxModulus) where
   -- the terms taken stand in it
   pub taken-held : (cs : List Call) → (let s = afterAll (openOf m .sequence) cs in take (s .count) (s .terms)) ≡ taken m cs
   taken-held cs = ap (λ (s : Sequence). take (s .count) (s .terms)) (state cs) ∙ front (taken m cs) (replicate (maxTerms - length (taken m cs)) 0)
+
+  -- it is sound, its modulus is m, and its count is the number of terms taken
+  pub after-sound : (cs : List Call) → IsSound (afterAll (openOf m .sequence) cs)
+  after-sound cs = subst IsSound (sym (state cs)) (holding-sound (taken m cs) (good cs))
+
+  pub after-modulus : (cs : List Call) → afterAll (openOf m .sequence) cs .modulus ≡ m
+  after-modulus cs = ap (λ (s : Sequence). s .modulus) (state cs)
+
+  pub after-count : (cs : List Call) → afterAll (openOf m .sequence) cs .count ≡ length (taken m cs)
+  after-count cs = ap (λ (s : Sequence). s .count) (state cs)
+
+  -- ---- a column behind the list
+
+  taken-append : (ts : List ℕ) (cs ds : List Call) → takenFrom m ts (cs ++ ds) ≡ takenFrom m (takenFrom m ts cs) ds
+  unfolding takenFrom
+  taken-append ts [] ds = refl
+  taken-append ts (c ∷ cs) ds = taken-append (takes m ts c) cs ds
+
+  pub column-joined : (cs : List Call) (list : List ℕ)
+      → taken m (cs ++ (pushAll list ∷ [])) ≡ taken m cs ++ take (pushAllOf (afterAll (openOf m .sequence) cs) list .taken) (termsIn list)
+  unfolding takenFrom
+  column-joined cs list =
+      taken-append [] cs (pushAll list ∷ [])
+      ∙ column-for (taken m cs) list (good cs) .joined
+      ∙ ap (λ (s : Sequence). taken m cs ++ take (pushAllOf s list .taken) (termsIn list)) (sym (state cs))
 
   -- ---- pushing terms one by one
 

@@ -61,6 +61,13 @@ pub record Singly (s : Sequence) (ts : List ℕ) (r : PushedAll) : Type 0 where
 abbrev pub takenThen : ℕ → List Call → List ℕ → ℕ
 takenThen m calls list = pushAllOf (afterAll (openOf m .sequence) calls) list .taken
 
+-- a column behind a list of calls is handed a sound sequence, which holds as many terms as were taken; those of its own that are taken join them at the
+-- end, in order
+pub record Joins (m : ℕ) (calls : List Call) (list : List ℕ) : Type 0 where
+  pub sound : IsSound (afterAll (openOf m .sequence) calls)
+  pub count : afterAll (openOf m .sequence) calls .count ≡ length (taken m calls)
+  pub joined : taken m (calls ++ (pushAll list ∷ [])) ≡ taken m calls ++ take (takenThen m calls list) (termsIn list)
+
 -- a column between two lists of calls stands for the pushes of its terms that are taken
 pub record StandsFor (m : ℕ) (calls : List Call) (list : List ℕ) (rest : List Call) : Type 0 where
   pub sequence :
@@ -77,6 +84,7 @@ pub record EveryColumn : Type 0 where
   -- any other, of whatever length
   pub takes : (s : Sequence) (list : List ℕ) → length list % 2 ≡ zero → IsSound s → Takes s (termsIn list) (pushAllOf s list)
   pub singly : (s : Sequence) (list : List ℕ) → length list % 2 ≡ zero → IsSound s → Singly s (termsIn list) (pushAllOf s list)
+  pub joins : (m : ℕ) → 2 ≤ m → m ≤ maxModulus → (calls : List Call) (list : List ℕ) → Joins m calls list
   pub stands : (m : ℕ) → 2 ≤ m → m ≤ maxModulus → (calls : List Call) (list : List ℕ) (rest : List Call) → StandsFor m calls list rest
   -- at most 128 terms, each below m, are taken whole as one column of cells
   pub whole :

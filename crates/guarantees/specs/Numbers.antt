@@ -10,7 +10,7 @@ use Rattle.cells.specs.Cell.{bytesOf}
 use Rattle.steps.specs.declared.StepRecord.{StepRecord}
 use Rattle.sequence.specs.declared.Sequence.{Sequence}
 use Rattle.sequence.specs.declared.Refusal.the-variants.{Term, Full}
-use Rattle.sequence.specs.declared.Outcome.the-variants.{Refused}
+use Rattle.sequence.specs.declared.Outcome.the-variants.{Done, Refused}
 use Rattle.sequence.specs.Limits.{maxTerms, queryBytes, aBytes, bBytes, profileBytes}
 use Rattle.sequence.specs.Answers.{Answer, granted, refused, refusedAt}
 use Rattle.sequence.specs.Rules.{openOf, openAnswer, pushAnswer, queryOf}
@@ -95,6 +95,12 @@ pub record Numbers : Type 0 where
   pub column-stays :
       pushAllOf (after 9 (6 ∷ [])) (bytesOf (3 ∷ 9 ∷ 5 ∷ []))
       ≡ record { sequence = after 9 (6 ∷ 3 ∷ []); taken = 1; outcome = Refused (Term 2) }
+  pub column-whole :
+      pushAllOf (after 9 (6 ∷ [])) (bytesOf (3 ∷ 1 ∷ 5 ∷ 6 ∷ []))
+      ≡ record { sequence = after 9 (6 ∷ 3 ∷ 1 ∷ 5 ∷ 6 ∷ []); taken = 4; outcome = Done }
+  pub column-bytes :
+      pushAllOf (openOf 4095 .sequence) (254 ∷ 15 ∷ 255 ∷ 15 ∷ [])
+      ≡ record { sequence = after 4095 (4094 ∷ []); taken = 1; outcome = Refused (Term 1) }
   pub column-ends-full :
       pushAllOf (forged 2 127 []) (bytesOf (1 ∷ 0 ∷ 0 ∷ []))
       ≡ record { sequence = forged 2 128 (replicate 127 0 ++ (1 ∷ [])); taken = 1; outcome = Refused Full }

@@ -163,7 +163,7 @@ fn stopped(s: Sequence) -> Turn {
     }
 }
 
-// The turn after a call whose line is written: the sequence held, and whether the script had the whole call.
+// The turn after a call, with the sequence that is held then; the script ends where it does not have the whole call.
 fn kept(s: Sequence, whole: bool) -> Turn {
     if whole {
         return Turn {

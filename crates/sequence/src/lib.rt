@@ -43,7 +43,7 @@ pub struct Sequence {
     pub terms: [u32; TERMS],
 }
 
-// Why a call did nothing. `Answers.refusal` has the paper's number of each. A wrong term has its place, counted from 0, and so have the
+// Why a call was not done, or the rest of a column. `Answers.refusal` has the paper's number of each. A wrong term has its place, counted from 0, and so have the
 // byte that breaks a typed line's form and the digit that passes its range.
 pub enum Refusal {
     Modulus,
