@@ -45,12 +45,13 @@ pub record Good (m : ℕ) (ts : List ℕ) : Type 0 where
 pub padded-at : (ts : List ℕ) (j : ℕ) → j < length ts → at (padded ts) j ≡ at ts j
 padded-at ts j h = List·getD-append ts (replicate (maxTerms - length ts) 0) 0 j h
 
+-- of two lists, the first
 front : (xs ys : List ℕ) → take (length xs) (xs ++ ys) ≡ xs
 front [] ys = refl
 front (x ∷ xs) ys = ap (λ (l : List ℕ). x ∷ l) (front xs ys)
 
 module _ (m : ℕ) (least : 2 ≤ m) (most : m ≤ maxModulus) where
-  pub holding-sound : (ts : List ℕ) → Good m ts → IsSound (holding m ts)
+  holding-sound : (ts : List ℕ) → Good m ts → IsSound (holding m ts)
   holding-sound ts g =
       record {
         least = least;
