@@ -2,40 +2,32 @@
 -- Assumes nothing.
 use mathlib.Core.Path.{_≡_, refl, ap, _∙_}
 use mathlib.Core.Bool.{Bool, true, false, not}
-use mathlib.Core.Logic.{_⊎_, inl, inr}
-use mathlib.Core.List.{List, [], _∷_}
-use Prim.Native.Nat.{ℕ, zero, _%_, _≤_, _<_}
-use native.Mathlib.Decide.{ℕ-discrete}
-use lib.Dec.{leb, eqb}
+use mathlib.Core.List.{List}
+use Prim.Native.Nat.{ℕ, zero, _%_}
+use native.Mathlib.Omega.{arith}
+use lib.Dec.{eqb}
 use lib.ListN.{length}
-use lib.Arith.{lt-of-le-ne}
 use borrow.Author.Tests.{lt-leb, le-leb, eq-eqb, ne-eqb}
 use Rattle.lists.specs.Choice.{pick}
-use Rattle.lists.proofs.Search.{lt-or-le}
 use Rattle.sequence.specs.declared.Sequence.{Sequence}
 use Rattle.sequence.specs.declared.Refusal.the-variants as R
 use Rattle.sequence.specs.declared.Outcome.the-variants.{Refused}
 use Rattle.sequence.specs.Limits.{maxTerms}
-use Rattle.sequence.specs.Answers.{refused, refusedAt, outcomeAnswer, firstOf}
-use Rattle.sequence.specs.Rules.{faultOf, isSound, IsSound, longer}
-use Rattle.sequence.proofs.Laws.{sound-of, sound-longer}
+use Rattle.sequence.specs.Answers.{refused, outcomeAnswer, firstOf}
+use Rattle.sequence.specs.Rules.{faultOf, isSound, IsSound}
+use Rattle.sequence.proofs.Laws.{sound-of}
 use Rattle.column.specs.declared.PushedAll.{PushedAll}
 use Rattle.column.specs.Rules.{termsIn, took, eachOf, eachAnswer, pushAllOf, pushAllAnswer}
-use Rattle.column.proofs.Laws.{each-done, each-full, each-large}
+use Rattle.column.proofs.Laws.{each-by}
 
 each-told : (s : Sequence) (ts : List ℕ) → IsSound s → outcomeAnswer (eachOf s ts .outcome) ≡ eachAnswer s ts
-unfolding eachOf eachAnswer firstOf
-each-told s [] h = refl
-each-told s (t ∷ ts) h = go (ℕ-discrete (s .count) maxTerms) (lt-or-le t (s .modulus)) (λ k. each-told (longer s t) ts k)
-  where
-    go :
-        Dec (s .count ≡ maxTerms) → (t < s .modulus) ⊎ (s .modulus ≤ t) → (IsSound (longer s t) → outcomeAnswer (eachOf (longer s t) ts .outcome) ≡ eachAnswer (longer s t) ts)
-        → outcomeAnswer (eachOf s (t ∷ ts) .outcome) ≡ pick (eqb (s .count) maxTerms) (refused 22) (pick (leb (s .modulus) t) (refusedAt 3 (s .count)) (eachAnswer (longer s t) ts))
-    go (yes e) l rest = rw (eq-eqb _ _ e) (ap (λ (r : PushedAll). outcomeAnswer (r .outcome)) (each-full s t ts h e))
-    go (no f) (inr l) rest = rw (ne-eqb _ _ f, le-leb _ _ l) (ap (λ (r : PushedAll). outcomeAnswer (r .outcome)) (each-large s t ts h (lt-of-le-ne (h .count) f) l))
-    go (no f) (inl l) rest =
-        let room = lt-of-le-ne (h .count) f in
-        rw (ne-eqb _ _ f, lt-leb _ _ l) (ap (λ (r : PushedAll). outcomeAnswer (r .outcome)) (each-done s t ts h room l) ∙ rest (sound-longer s t h room l))
+unfolding eachAnswer firstOf
+each-told =
+    each-by (λ s ts r. outcomeAnswer (r .outcome) ≡ eachAnswer s ts)
+    (λ s h. refl)
+    (λ s t ts h e. rw (eq-eqb (s .count) maxTerms e))
+    (λ s t ts h room l. rw (ne-eqb (s .count) maxTerms (λ e. omega arith), le-leb (s .modulus) t l))
+    (λ s t ts r h room l k. rw (ne-eqb (s .count) maxTerms (λ e. omega arith), lt-leb (s .modulus) t l) k)
 
 -- it takes the equation of the reply and gives the whole promise
 pub push-all-told : (s : Sequence) (list : List ℕ) {r : PushedAll} → r ≡ pushAllOf s list → (r ≡ pushAllOf s list) × (outcomeAnswer (r .outcome) ≡ pushAllAnswer s list)

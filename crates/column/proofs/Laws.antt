@@ -1,13 +1,17 @@
 -- Laws of columns: what one term more does, and how far the terms have been pushed.
 -- Assumes nothing.
-use mathlib.Core.Path.{_≡_, refl, sym, ap, _∙_}
+use mathlib.Core.Path.{_≡_, refl, sym, ap, _∙_, subst}
 use mathlib.Core.Bool.{false}
-use mathlib.Core.List.{List, _∷_}
+use mathlib.Core.Logic.{_⊎_, inl, inr}
+use mathlib.Core.List.{List, [], _∷_}
 use Prim.Native.Nat.{ℕ, zero, suc, _+_, _/_, _%_, _≤_, _<_}
+use native.Mathlib.Decide.{ℕ-discrete}
 use native.Mathlib.Omega.{arith}
 use lib.ListN.{length, drop, drop-of-length-le}
 use lib.Seq.{drop-cons}
+use lib.Arith.{lt-of-le-ne}
 use borrow.Author.Tests.{eq-eqb, ne-eqb}
+use Rattle.lists.proofs.Search.{lt-or-le}
 use Rattle.lists.proofs.Table.{length-tabulate}
 use Rattle.cells.specs.Cell.{cellAt}
 use Rattle.cells.proofs.Laws.{at-cells}
@@ -32,6 +36,10 @@ later n r = took (n + r .taken) (r .sequence) (r .outcome)
 counted : {s : Sequence} {o : Outcome} {n n' : ℕ} → n ≡ n' → took n s o ≡ took n' s o
 counted {s} {o} e = λ i. took (e i) s o
 
+pub each-none : (s : Sequence) → eachOf s [] ≡ took zero s Done
+unfolding eachOf
+each-none s = refl
+
 module _ (s : Sequence) (t : ℕ) (ts : List ℕ) where
   -- what a push and the rest of the column make
   behind : Pushed → PushedAll
@@ -52,6 +60,25 @@ module _ (s : Sequence) (t : ℕ) (ts : List ℕ) where
   pub each-large : IsSound s → s .count < maxTerms → s .modulus ≤ t → eachOf s (t ∷ ts) ≡ took zero s (Refused (R.Term (s .count)))
   unfolding behind
   each-large sound room large = each-push ∙ ap behind (push-large s t sound room large)
+
+-- What holds of each way in which a column may go on holds of the column: P is said of a sound sequence, of the terms and of the reply.
+module _ (P : Sequence → List ℕ → PushedAll → Type 0)
+    (none : (s : Sequence) → IsSound s → P s [] (took zero s Done))
+    (full : (s : Sequence) (t : ℕ) (ts : List ℕ) → IsSound s → s .count ≡ maxTerms → P s (t ∷ ts) (took zero s (Refused R.Full)))
+    (large : (s : Sequence) (t : ℕ) (ts : List ℕ) → IsSound s → s .count < maxTerms → s .modulus ≤ t → P s (t ∷ ts) (took zero s (Refused (R.Term (s .count)))))
+    (done : (s : Sequence) (t : ℕ) (ts : List ℕ) (r : PushedAll) → IsSound s → s .count < maxTerms → t < s .modulus → P (longer s t) ts r → P s (t ∷ ts) (onward Done (longer s t) r)) where
+  pub each-by : (s : Sequence) (ts : List ℕ) → IsSound s → P s ts (eachOf s ts)
+  each-by s [] h = subst (P s []) (sym (each-none s)) (none s h)
+  each-by s (t ∷ ts) h = go (ℕ-discrete (s .count) maxTerms) (lt-or-le t (s .modulus)) (λ k. each-by (longer s t) ts k)
+    where
+      go : Dec (s .count ≡ maxTerms) → (t < s .modulus) ⊎ (s .modulus ≤ t) → (IsSound (longer s t) → P (longer s t) ts (eachOf (longer s t) ts)) → P s (t ∷ ts) (eachOf s (t ∷ ts))
+      go (yes e) l rest = subst (P s (t ∷ ts)) (sym (each-full s t ts h e)) (full s t ts h e)
+      go (no f) (inr l) rest =
+          let room = lt-of-le-ne (h .count) f in
+          subst (P s (t ∷ ts)) (sym (each-large s t ts h room l)) (large s t ts h room l)
+      go (no f) (inl l) rest =
+          let room = lt-of-le-ne (h .count) f in
+          subst (P s (t ∷ ts)) (sym (each-done s t ts h room l)) (done s t ts (eachOf (longer s t) ts) h room l (rest (sound-longer s t h room l)))
 
 -- ---- the whole column
 
@@ -119,5 +146,8 @@ module _ (list : List ℕ) where
         ∙ ends (Refused (R.Term (s .count))) (left-of t h e ∙ ap (later i) (each-large s t _ (f .sound) room large))
 
     pub far-all : length list / 2 ≤ i → took i s Done ≡ whole
-    unfolding eachOf
-    far-all h = ends Done (f .left ∙ ap (λ (ts : List ℕ). later i (eachOf s ts)) (drop-of-length-le (termsIn list) {i = i} (omega (arith, how-many))))
+    far-all h =
+        ends Done
+        (f .left
+        ∙ ap (λ (ts : List ℕ). later i (eachOf s ts)) (drop-of-length-le (termsIn list) {i = i} (omega (arith, how-many)))
+        ∙ ap (later i) (each-none s))

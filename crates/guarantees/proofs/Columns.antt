@@ -2,19 +2,15 @@
 -- Assumes nothing.
 use mathlib.Core.Path.{_≡_, refl, sym, ap, _∙_, subst}
 use mathlib.Core.Bool.{Bool, true, false}
-use mathlib.Core.Logic.{_⊎_, inl, inr}
+use mathlib.Core.Logic.{inl, inr}
 use mathlib.Core.List.{List, [], _∷_, _++_, map}
 use Prim.Native.Nat.{ℕ, zero, suc, _+_, _/_, _%_, _≤_, _<_}
 use native.Mathlib.Nat.{not-suc-le-zero}
 use native.Mathlib.Decide.{ℕ-discrete}
 use native.Mathlib.Omega.{arith}
-use lib.Dec.{leb, eqb}
 use lib.ListN.{length, take}
 use lib.Seq.{take-all}
-use lib.Arith.{lt-of-le-ne}
-use Rattle.lists.specs.Choice.{pick}
 use Rattle.lists.specs.Table.{at}
-use Rattle.lists.proofs.Search.{lt-or-le}
 use Rattle.lists.proofs.Table.{is-tabulate}
 use Rattle.cells.specs.Cell.{cellAt, bytesOf}
 use Rattle.cells.proofs.Laws.{length-bytesOf, cellAt-bytesOf}
@@ -22,15 +18,14 @@ use Rattle.sequence.specs.declared.Sequence.{Sequence}
 use Rattle.sequence.specs.declared.Refusal.the-variants as R
 use Rattle.sequence.specs.declared.Outcome.{Outcome}
 use Rattle.sequence.specs.declared.Outcome.the-variants.{Done, Refused}
-use Rattle.sequence.specs.declared.Pushed.{Pushed}
 use Rattle.sequence.specs.Limits.{maxModulus, maxTerms}
 use Rattle.sequence.specs.Rules.{IsSound, faultOf, isSound, openOf, longer, pushOf}
-use Rattle.sequence.proofs.Laws.{refused-done, sound-of, sound-longer}
+use Rattle.sequence.proofs.Laws.{refused-done, sound-of, push-kept}
 use Rattle.column.specs.declared.PushedAll.{PushedAll}
 use Rattle.column.specs.Rules.{termsIn, took, onward, eachOf, pushAllOf}
-use Rattle.column.proofs.Laws.{each-done, each-full, each-large, column-odd, column-unsound, column-each}
+use Rattle.column.proofs.Laws.{each-none, each-push, each-by, column-odd, column-unsound, column-each}
 use Rattle.guarantees.specs.Calls.{Call, push, pushAll, after, afterAll, takenFrom, taken}
-use Rattle.guarantees.specs.Columns.{Ends, all, full, large, Takes, afterFirst, EndsSingly, Singly, takenThen, Joins, StandsFor, EveryColumn}
+use Rattle.guarantees.specs.Columns.{Ends, all, full, large, Takes, afterFirst, EndsSingly, Singly, takenThen, StandsFor, EveryColumn}
 use Rattle.guarantees.proofs.State.{taken-held, after-sound, after-modulus, after-count, column-joined}
 
 -- ---- by the terms
@@ -71,44 +66,20 @@ module _ (s : Sequence) (t : ℕ) (ts : List ℕ) (small : t < s .modulus) (r : 
       }
 
 each-takes : (s : Sequence) (ts : List ℕ) → IsSound s → Takes s ts (eachOf s ts)
-unfolding eachOf
-each-takes s [] h = none s [] h Done (all refl refl)
-each-takes s (t ∷ ts) h = go (ℕ-discrete (s .count) maxTerms) (lt-or-le t (s .modulus)) (λ k. each-takes (longer s t) ts k)
-  where
-    go : Dec (s .count ≡ maxTerms) → (t < s .modulus) ⊎ (s .modulus ≤ t) → (IsSound (longer s t) → Takes (longer s t) ts (eachOf (longer s t) ts)) → Takes s (t ∷ ts) (eachOf s (t ∷ ts))
-    go (yes e) l rest = subst (Takes s (t ∷ ts)) (sym (each-full s t ts h e)) (none s (t ∷ ts) h (Refused R.Full) (full (omega arith) (omega arith) refl))
-    go (no f) (inr l) rest =
-        let room = lt-of-le-ne (h .count) f in
-        subst (Takes s (t ∷ ts)) (sym (each-large s t ts h room l))
-        (none s (t ∷ ts) h (Refused (R.Term (s .count)))
-        (large (omega arith) (omega arith) l (ap (λ (n : ℕ). Refused (R.Term n)) (let e : s .count ≡ s .count + 0 = omega arith in e))))
-    go (no f) (inl l) rest =
-        let room = lt-of-le-ne (h .count) f in
-        subst (Takes s (t ∷ ts)) (sym (each-done s t ts h room l)) (more s t ts l (eachOf (longer s t) ts) (rest (sound-longer s t h room l)))
+each-takes =
+    each-by Takes
+    (λ s h. none s [] h Done (all refl refl))
+    (λ s t ts h e. none s (t ∷ ts) h (Refused R.Full) (full (omega arith) (omega arith) refl))
+    (λ s t ts h room l. none s (t ∷ ts) h (Refused (R.Term (s .count)))
+    (large (omega arith) (omega arith) l (ap (λ (n : ℕ). Refused (R.Term n)) (let e : s .count ≡ s .count + 0 = omega arith in e))))
+    (λ s t ts r h room l k. more s t ts l r k)
 
 -- ---- by single pushes
 
--- a push that is refused leaves the sequence as it is
-push-kept : (s : Sequence) (t : ℕ) → (pushOf s t .outcome ≡ Done → ⊥) → pushOf s t .sequence ≡ s
-unfolding pushOf
-push-kept s t h = go (isSound (faultOf s)) (eqb (s .count) maxTerms) (leb (s .modulus) t) h
-  where
-    with : Sequence → Outcome → Pushed
-    with x o = record { sequence = x; outcome = o }
-
-    reply : Bool → Bool → Bool → Pushed
-    reply x y z = pick x (pick y (with s (Refused R.Full)) (pick z (with s (Refused (R.Term (s .count)))) (with (longer s t) Done))) (with s (Refused R.Sequence))
-
-    go : (x y z : Bool) → (reply x y z .outcome ≡ Done → ⊥) → reply x y z .sequence ≡ s
-    go false y z h = refl
-    go true true z h = refl
-    go true false true h = refl
-    go true false false h = absurd (h refl)
-
 each-singly : (s : Sequence) (ts : List ℕ) → Singly s ts (eachOf s ts)
-unfolding eachOf afterAll
-each-singly s [] = record { each = λ i h. absurd (not-suc-le-zero h); sequence = refl; ends = inl (refl, refl) }
-each-singly s (t ∷ ts) = go (pushOf s t .outcome) refl (each-singly (pushOf s t .sequence) ts)
+unfolding afterAll
+each-singly s [] = subst (Singly s []) (sym (each-none s)) (record { each = λ i h. absurd (not-suc-le-zero h); sequence = refl; ends = inl (refl, refl) })
+each-singly s (t ∷ ts) = subst (Singly s (t ∷ ts)) (sym (each-push s t ts)) (go (pushOf s t .outcome) refl (each-singly (pushOf s t .sequence) ts))
   where
     s′ : Sequence
     s′ = pushOf s t .sequence

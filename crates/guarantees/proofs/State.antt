@@ -26,7 +26,7 @@ use Rattle.sequence.specs.Rules.{openOf, pushOf, faultOf, isSound, IsSound}
 use Rattle.sequence.proofs.Laws.{is-sound, open-done, push-done, push-full, push-large}
 use Rattle.column.specs.declared.PushedAll.{PushedAll}
 use Rattle.column.specs.Rules.{termsIn, took, onward, eachOf, pushAllOf}
-use Rattle.column.proofs.Laws.{each-done, each-full, each-large, column-odd, column-each}
+use Rattle.column.proofs.Laws.{each-none, each-done, each-full, each-large, column-odd, column-each}
 use Rattle.guarantees.specs.Calls.{Call, push, pushAll, register, profile, trace, afterAll, takesEach, takes, takenFrom, taken}
 
 -- the terms in an array of 128, zero past the last
@@ -139,8 +139,8 @@ module _ (m : ℕ) (least : 2 ≤ m) (most : m ≤ maxModulus) where
   left-none ts us o g = record { holds = refl; good = g; joined = sym (append-nil ts) }
 
   each-for : (us ts : List ℕ) → Good m ts → Left ts us (eachOf (holding m ts) us) (takesEach m ts us)
-  unfolding eachOf takesEach
-  each-for [] ts g = left-none ts [] Done g
+  unfolding takesEach
+  each-for [] ts g = subst (λ (r : PushedAll). Left ts [] r ts) (sym (each-none (holding m ts))) (left-none ts [] Done g)
   each-for (t ∷ us) ts g = go (lt-or-le t m) (lt-or-le (length ts) maxTerms) (λ h. each-for us (ts ++ (t ∷ [])) h)
     where
       s : IsSound (holding m ts)

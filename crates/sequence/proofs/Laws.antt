@@ -196,6 +196,23 @@ pub push-large : (s : Sequence) (t : ℕ) → IsSound s → s .count < maxTerms 
 unfolding pushOf
 push-large s t h k b = rw (is-sound s h, ne-eqb (s .count) maxTerms (λ e. omega arith), le-leb _ _ b)
 
+-- one that is refused leaves the sequence as it is
+pub push-kept : (s : Sequence) (t : ℕ) → (pushOf s t .outcome ≡ Done → ⊥) → pushOf s t .sequence ≡ s
+unfolding pushOf
+push-kept s t h = go (isSound (faultOf s)) (eqb (s .count) maxTerms) (leb (s .modulus) t) h
+  where
+    with : Sequence → Outcome → Pushed
+    with x o = record { sequence = x; outcome = o }
+
+    reply : Bool → Bool → Bool → Pushed
+    reply x y z = pick x (pick y (with s (Refused R.Full)) (pick z (with s (Refused (R.Term (s .count)))) (with (longer s t) Done))) (with s (Refused R.Sequence))
+
+    go : (x y z : Bool) → (reply x y z .outcome ≡ Done → ⊥) → reply x y z .sequence ≡ s
+    go false y z h = refl
+    go true true z h = refl
+    go true false true h = refl
+    go true false false h = absurd (h refl)
+
 -- a sound sequence with one term more is sound
 pub sound-longer : (s : Sequence) (t : ℕ) → IsSound s → s .count < maxTerms → t < s .modulus → IsSound (longer s t)
 sound-longer s t h room small =

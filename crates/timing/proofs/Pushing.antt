@@ -14,7 +14,7 @@ use Rattle.sequence.specs.declared.Pushed.{Pushed}
 use Rattle.sequence.specs.Rules.{pushOf}
 use Rattle.column.specs.declared.PushedAll.{PushedAll}
 use Rattle.column.specs.Rules.{termsIn, onward, eachOf}
-use Rattle.column.proofs.Laws.{how-many, next, each-push}
+use Rattle.column.proofs.Laws.{how-many, next, each-none, each-push}
 
 -- i terms were taken, and s is the sequence then
 pub record Pushing (list : List ℕ) (whole : Sequence) (i : ℕ) (s : Sequence) : Type 0 where
@@ -46,5 +46,8 @@ module _ {list : List ℕ} {whole : Sequence} {i : ℕ} {s : Sequence} (f : Push
   pushing-refused p t r h e hp ho = sym (pushed p t (Refused r) h e hp ho)
 
   pub pushing-all : length list / 2 ≤ i → s ≡ whole
-  unfolding eachOf
-  pushing-all h = sym (f .left ∙ ap (λ (ts : List ℕ). eachOf s ts .sequence) (drop-of-length-le (termsIn list) {i = i} (omega (arith, how-many list))))
+  pushing-all h =
+      sym
+      (f .left
+      ∙ ap (λ (ts : List ℕ). eachOf s ts .sequence) (drop-of-length-le (termsIn list) {i = i} (omega (arith, how-many list)))
+      ∙ ap (λ (r : PushedAll). r .sequence) (each-none s))
