@@ -1,5 +1,6 @@
-//! The cases of 01, the tables of 000, and sheets by hand.
+//! The cases of 01, lines of the listing, the tables of 000, and sheets by hand.
 
+use crate::ask::ask;
 use crate::calls::*;
 use crate::checks::Group;
 use crate::join;
@@ -9,7 +10,7 @@ use crate::refusals::Refusal;
 use crate::residue::PrimePower;
 use crate::sequences::set_cell;
 use crate::steps::{length, run, Case, Pair, StepRecord};
-use crate::working::working;
+use crate::working::{working, working_lines};
 
 /// A case that names l, a_0 .. a_l and the first cells of b.
 type Named<'a> = (u64, &'a [u64], usize, &'a [u64], &'a [u64]);
@@ -136,12 +137,13 @@ fn cases_of_limits(group: &mut Group) {
     group.check(refused, || String::from("case 15: count 129"));
 }
 
-/// The example of 01, then a slip that has its eighth term wrong (02, A2: "the listing
-/// prints "refused 3 at 7""), then a piece that is cut short.
+/// The example of 01 in the words of A6, then a slip that has its eighth term wrong (02, A2:
+/// "the listing prints "refused 3 at 7""), then a piece that is cut short; then lines by hand.
 fn cases_of_listing(group: &mut Group) {
     let mut slips = slip_of(9, &[6, 3, 1, 5, 6]);
     slips.extend(slip_of(1, &[]));
-    let mut expected = String::from("modulus count order register\n9 5 3 1,4,7,1\nrefused 1\n");
+    let mut expected =
+        String::from("modulus count order start register\n9 5 3 3 1,4,7,1\nrefused 1\n");
     group.check(listing(&slips) == expected, || listing(&slips));
     slips.extend(slip_of(9, &[6, 3, 1, 5, 6, 6, 3, 9, 8, 10, 9]));
     expected.push_str("refused 3 at 7\n");
@@ -149,6 +151,75 @@ fn cases_of_listing(group: &mut Group) {
     slips.push(0);
     expected.push_str("refused 5\n");
     group.check(listing(&slips) == expected, || listing(&slips));
+    for (m, terms, line) in LISTED {
+        check_listed(group, m, terms, line);
+    }
+    longest_listed(group);
+}
+
+/// Modulus, terms and the line of the listing (02, A6: "order is the degree of a, start is
+/// the length, and the register prints a_0 up to the order"), by hand.
+const LISTED: [(u64, &[u64], &str); 16] = [
+    // "2,1 modulo 4 reads "4 2 0 2 1"".
+    (4, &[2, 1], "4 2 0 2 1"),
+    // The other cases of 01 that name a and l, each a without the zeros at its end.
+    (2, &[], "2 0 0 0 1"),
+    (5, &[0, 0, 0], "5 3 0 0 1"),
+    (9, &[6, 3, 1, 5, 6], "9 5 3 3 1,4,7,1"),
+    (4, &[2, 2], "4 2 1 1 1,3"),
+    (2, &[0, 0, 1], "2 3 0 3 1"),
+    (6, &[3, 3], "6 2 1 1 1,3"),
+    (7, &[1, 1, 2, 3, 5, 1], "7 6 2 2 1,6,6"),
+    (6, &[1, 0], "6 2 0 1 1"),
+    // Step 0 finds 1 and row 1 has L = 0: 1 is added to b, and a stays 1.
+    (9, &[1], "9 1 0 1 1"),
+    // Steps 0 and 2 find 1. The first makes the pair (1, 1), the second subtracts x^2 × (1, 0),
+    // and 1 - x^2 is 1 + x^2 modulo 2. The zero inside is printed.
+    (2, &[1, 0, 1], "2 3 2 2 1,0,1"),
+    // Step 2 adds x^2 to b, l is 3. Step 3 finds 1 and subtracts x × (1, 0). S × a is
+    // (x^2 + x^3)(1 + x), up to x^3 the x^2 of b; two coefficients give 0 for the third term.
+    (2, &[0, 0, 1, 1], "2 4 1 3 1,1"),
+    // Step 3 adds x^3 to b, l is 4. Step 4 finds 0, step 5 finds 1 and subtracts x^2 × (1, 0).
+    (2, &[0, 0, 0, 1, 0, 1], "2 6 2 4 1,0,1"),
+    // Step 1 finds 2 in row 0, g is 0: 2x is added to b, l is 2. Step 2 finds 2, and g, r, h are
+    // 0, 1, 0: x × (1, 0) is subtracted. S × a is (2x + 2x^2)(1 + 3x), up to x^2 it is 2x.
+    (4, &[0, 2, 2], "4 3 1 2 1,3"),
+    // 1,1 modulo 2 has a 1,1 and length 1, and 0,1 modulo 3 has a 1 and length 2: the order
+    // comes from one prime and the start from the other. The number with remainders 1, 0 is 3.
+    (6, &[3, 1], "6 2 1 2 1,3"),
+    // 0,1 modulo 2 has a 1 and length 2, and 1,1 modulo 3 has a 1,2 and length 1. The number
+    // with remainders 0, 2 is 2.
+    (6, &[4, 1], "6 2 1 2 1,2"),
+];
+
+/// The listing has the line for the terms, and so have the working and, for the terms typed,
+/// the asking and its working.
+fn check_listed(group: &mut Group, m: u64, terms: &[u64], line: &str) {
+    let slip = slip_of(m, terms);
+    let numbers: Vec<String> = terms.iter().map(u64::to_string).collect();
+    let typed = format!("mod {m}: {}", numbers.join(","));
+    let expected = format!("modulus count order start register\n{line}\n");
+    for text in [listing(&slip), ask(typed.as_bytes())] {
+        group.check(text == expected, || format!("{typed}: {text}"));
+    }
+    for text in [working(&slip), working_lines(typed.as_bytes())] {
+        group.check(text.starts_with(&expected), || format!("{typed}: {text}"));
+    }
+}
+
+/// 128 terms, all 0 but for one or two that are 1. The first one, at place r, is added to b, and
+/// l is r+1. Modulo a prime a second one, at place k, subtracts x^(k-r) × (1, 0): a then has m-1
+/// at k-r, and l is the larger of k-r and r+1.
+fn longest_listed(group: &mut Group) {
+    let ones = |places: &[usize]| -> Vec<u64> {
+        (0..TERMS_LIMIT).map(|place| u64::from(places.contains(&place))).collect()
+    };
+    let zeros = |count: usize| "0,".repeat(count);
+    check_listed(group, 4095, &ones(&[127]), "4095 128 0 128 1");
+    let line = format!("2 128 127 127 1,{}1", zeros(126));
+    check_listed(group, 2, &ones(&[0, 127]), &line);
+    let line = format!("3 128 63 65 1,{}2", zeros(62));
+    check_listed(group, 3, &ones(&[64, 127]), &line);
 }
 
 /// Table 1 for k = 0 to 5: (a, b) of rows 0 and 1.
@@ -220,6 +291,15 @@ const SHEET_OF_CASE_8: [[u32; 8]; 4] = [
     [3, 1, 0, 0, 1, 1, 1, 1],
 ];
 
+/// 2,1 modulo 4 by hand: the lengths before the steps are those of the rows, 0 and 1 in row 0,
+/// though a is 1 throughout.
+const SHEET_OF_CASE_6: [[u32; 8]; 4] = [
+    [4, 0, 0, 0, 1, 1, 0, 2],
+    [4, 0, 1, 0, 2, 1, 2, 1],
+    [4, 1, 0, 1, 0, 1, 1, 2],
+    [4, 1, 1, 0, 1, 1, 0, 3],
+];
+
 /// 6,4 modulo 8 by hand: at r = 0 the older row is h = 1, not the longer version's 0.
 const SHEET_MODULO_8: [[u32; 8]; 6] = [
     [8, 0, 0, 0, 1, 3, 1, 2],
@@ -243,8 +323,9 @@ fn traced(m: u64, terms: &[u64], room: usize) -> (Report, Vec<[u32; 8]>) {
 
 /// Sheets written out by hand, each record for itself, then the text of the working.
 pub fn sheets_by_hand(group: &mut Group) {
-    let by_hand: [(u64, &[u64], &[[u32; 8]]); 5] = [
+    let by_hand: [(u64, &[u64], &[[u32; 8]]); 6] = [
         (9, &[6, 3, 1, 5, 6], &SHEET_OF_TABLE_2),
+        (4, &[2, 1], &SHEET_OF_CASE_6),
         (6, &[3, 3], &SHEET_OF_CASE_8),
         (8, &[6, 4], &SHEET_MODULO_8),
         (2, &[], &[]),
@@ -267,17 +348,9 @@ pub fn sheets_by_hand(group: &mut Group) {
     working_by_hand(group);
 }
 
-fn working_by_hand(group: &mut Group) {
-    let slips = [
-        slip_of(9, &[6, 3, 1, 5, 6]),
-        slip_of(1, &[]),
-        slip_of(6, &[3, 3]),
-        slip_of(6, &[3, 3, 6, 7]),
-        slip_of(2, &[]),
-        vec![0; 100],
-    ];
-    let expected = "modulus count order register
-9 5 3 1,4,7,1
+/// What `working_by_hand` has to get, header and all.
+const WORKING: &str = "modulus count order start register
+9 5 3 3 1,4,7,1
 power k row length u theta g case
 9 0 0 0 1 2 0 2
 9 0 1 0 2 1 2 1
@@ -290,21 +363,38 @@ power k row length u theta g case
 9 4 0 3 0 8 1 3
 9 4 1 2 0 4 1 3
 refused 1
-6 2 1 1,3
+6 2 1 1 1,3
 power k row length u theta g case
 2 0 0 0 0 1 0 2
 2 1 0 1 0 1 0 3
 3 0 0 0 1 1 1 1
 3 1 0 0 1 1 1 1
 refused 3 at 2
-2 0 0 1
+4 2 0 2 1
+power k row length u theta g case
+4 0 0 0 1 1 0 2
+4 0 1 0 2 1 2 1
+4 1 0 1 0 1 1 2
+4 1 1 0 1 1 0 3
+2 0 0 0 1
 power k row length u theta g case
 refused 5
 ";
+
+fn working_by_hand(group: &mut Group) {
+    let slips = [
+        slip_of(9, &[6, 3, 1, 5, 6]),
+        slip_of(1, &[]),
+        slip_of(6, &[3, 3]),
+        slip_of(6, &[3, 3, 6, 7]),
+        slip_of(4, &[2, 1]),
+        slip_of(2, &[]),
+        vec![0; 100],
+    ];
     let text = working(&slips.concat());
-    group.check(text == expected, || text.clone());
+    group.check(text == WORKING, || text.clone());
     let header = working(&[]);
-    group.check(header == "modulus count order register\n", || header.clone());
+    group.check(header == "modulus count order start register\n", || header.clone());
 }
 
 /// Sequences whose register tells the compact version from the longer one, θ as a

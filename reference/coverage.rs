@@ -1,6 +1,6 @@
 //! What the random slips, scripts and typed lines meet: every refusal of every call, the
-//! places, the kinds of bad claims, of lines and of columns. The seeds are those that
-//! tests/expectations.sh uses.
+//! places, the kinds of bad claims, of lines, of columns, and how the orders stand to the
+//! starts. The seeds are those that tests/expectations.sh uses.
 
 use crate::ask::{self, ask, LINE_LIMIT};
 use crate::calls::*;
@@ -13,7 +13,9 @@ use crate::listing::listing;
 use crate::scenarios;
 use crate::script::{line, reading_bytes, replay, Call, Operation};
 use crate::sequences;
+use crate::starts::{self, read_back};
 use crate::typed::typed;
+use crate::working::working;
 use std::collections::{BTreeMap, BTreeSet};
 
 /// How often each thing must be met at least.
@@ -57,14 +59,20 @@ pub fn met(group: &mut Group) {
     let input = typed(41, 1600);
     let (text, whole) = replay(&script);
     group.check(whole, || String::from("the script is whole"));
-    let listed: String = listing(&slips).lines().map(|line| format!("listing {line}\n")).collect();
-    let asked: String = ask(&input).lines().map(|line| format!("ask {line}\n")).collect();
-    refusals_met(group, &(text + &listed + &asked));
+    let (listed, asked) = (named("listing", &listing(&slips)), named("ask", &ask(&input)));
+    refusals_met(group, &[&text[..], &listed, &asked].concat());
+    let worked = named("working", &working(&sequences::slips(31, 160)));
+    starts_met(group, &[listed, worked, asked].concat());
     slips_met(group, &slips);
     claims_met(group, &script);
     lines_met(group, &script, &input);
     longest_met(group, &input);
     columns_met(group, &script);
+}
+
+/// The text with the name of its command before each line.
+fn named(command: &str, text: &str) -> String {
+    text.lines().map(|line| format!("{command} {line}\n")).collect()
 }
 
 fn often(group: &mut Group, times: usize, words: impl Fn() -> String) {
@@ -116,6 +124,24 @@ fn refusals_met(group: &mut Group, text: &str) {
             often(group, times, || format!("{call} refused 3 at {place}"));
         }
     }
+}
+
+/// 02, A6: each command prints orders that are 0, between 0 and the start, and the start, and
+/// starts of 0, so that a listing with the one for the other is found out.
+fn starts_met(group: &mut Group, text: &str) {
+    let mut tally = Tally::new();
+    for (command, line) in text.lines().filter_map(|line| line.split_once(' ')) {
+        if let Some(told) = read_back(line) {
+            count(&mut tally, (command, told.kind()));
+        }
+    }
+    let commands = ["listing", "working", "ask"];
+    for (command, kind) in commands.iter().flat_map(|c| starts::KINDS.map(|kind| (*c, kind))) {
+        let times = tally.get(&(command, kind)).copied().unwrap_or(0);
+        often(group, times, || format!("{command}, lines: {kind}"));
+    }
+    let all = tally.len() == commands.len() * starts::KINDS.len();
+    group.check(all, || format!("kinds of orders: {tally:?}"));
 }
 
 /// What the slips must have: terms out of range, alone and several, of each value, and 4.

@@ -305,24 +305,26 @@ fn script_by_hand(group: &mut Group) {
 }
 
 /// What is typed and the text after the header, with the end marks of each kind.
-const INPUTS: [(&str, &str); 19] = [
+const INPUTS: [(&str, &str); 20] = [
     ("", ""),
     ("\n", "refused 27 at 0\n"),
     ("\r\n", "refused 27 at 0\n"),
     ("\r", "refused 27 at 0\n"),
     ("\n\n", "refused 27 at 0\nrefused 27 at 0\n"),
     ("\r\r\n", "refused 27 at 0\n"),
-    ("mod 9:1", "9 1 1 1,0\n"),
-    ("mod 9:1\n", "9 1 1 1,0\n"),
-    ("mod 9:1\r\n", "9 1 1 1,0\n"),
+    ("mod 9:1", "9 1 0 1 1\n"),
+    ("mod 9:1\n", "9 1 0 1 1\n"),
+    ("mod 9:1\r\n", "9 1 0 1 1\n"),
     ("mod 9:1\r", "refused 27 at 7\n"),
     ("mod 9:1\r\r\n", "refused 27 at 7\n"),
-    ("mod 9:1\n\r", "9 1 1 1,0\nrefused 27 at 0\n"),
+    ("mod 9:1\n\r", "9 1 0 1 1\nrefused 27 at 0\n"),
     ("mod 9:1\rmod 9:1\n", "refused 27 at 7\n"),
-    ("mod 9:1\n ", "9 1 1 1,0\nrefused 27 at 0\n"),
-    ("\nmod 9:", "refused 27 at 0\n9 0 0 1\n"),
+    ("mod 9:1\n ", "9 1 0 1 1\nrefused 27 at 0\n"),
+    ("\nmod 9:", "refused 27 at 0\n9 0 0 0 1\n"),
     ("# mod 9:\nmod 9: # 1\n", "refused 27 at 0\nrefused 27 at 7\n"),
-    ("mod 9: 6,3,1,-4,6\r\nmod  9:\n", "9 5 3 1,4,7,1\nrefused 27 at 4\n"),
+    ("mod 9: 6,3,1,-4,6\r\nmod  9:\n", "9 5 3 3 1,4,7,1\nrefused 27 at 4\n"),
+    // The example of A6, as a reader may type it: -2 is 2 and 5 is 1 modulo 4.
+    ("mod 4: -2,5\n", "4 2 0 2 1\n"),
     ("mod 9:2147483648x\nmod 1:\n", "refused 28 at 15\nrefused 1\n"),
     ("\u{fe}\nmod 9:-\u{ff}", "refused 27 at 0\nrefused 27 at 7\n"),
 ];
@@ -332,11 +334,15 @@ fn end_marks(group: &mut Group) {
         let text = ask(input.as_bytes());
         group.check(text == format!("{HEADER}\n{lines}"), || format!("{input:?}: {text}"));
     }
-    let text = working_lines(b"mod 6:-3,9\nmod 9:x\r\nmod 2: ");
+    let text = working_lines(b"mod 6:-3,9\nmod 9:x\r\nmod 4:-2,5\nmod 2: ");
     let sheet = "power k row length u theta g case";
-    let records = "2 0 0 0 0 1 0 2\n2 1 0 1 0 1 0 3\n3 0 0 0 1 1 1 1\n3 1 0 0 1 1 1 1";
-    let expected =
-        format!("{HEADER}\n6 2 1 1,3\n{sheet}\n{records}\nrefused 27 at 6\n2 0 0 1\n{sheet}\n");
+    let of_six = "2 0 0 0 0 1 0 2\n2 1 0 1 0 1 0 3\n3 0 0 0 1 1 1 1\n3 1 0 0 1 1 1 1";
+    let of_four = "4 0 0 0 1 1 0 2\n4 0 1 0 2 1 2 1\n4 1 0 1 0 1 1 2\n4 1 1 0 1 1 0 3";
+    let expected = [
+        format!("{HEADER}\n6 2 1 1 1,3\n{sheet}\n{of_six}\nrefused 27 at 6\n"),
+        format!("4 2 0 2 1\n{sheet}\n{of_four}\n2 0 0 0 1\n{sheet}\n"),
+    ]
+    .concat();
     group.check(text == expected, || text.clone());
 }
 
@@ -347,7 +353,7 @@ const LONGEST: usize = 65_536;
 /// end mark does not count.
 fn longest_lines(group: &mut Group) {
     let line = |size: usize| [b"mod 9:1", &vec![b' '; size - 7][..]].concat();
-    let (read, long) = ("9 1 1 1,0", "refused 5");
+    let (read, long) = ("9 1 0 1 1", "refused 5");
     let cut = |size: usize| format!("refused 27 at {size}");
     let all: [(Vec<u8>, &[u8], &str); 15] = [
         (line(LONGEST - 1), b"", read),

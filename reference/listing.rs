@@ -1,11 +1,13 @@
-//! The listing of 01: slips in, one line of text for each out.
+//! The listing of 01 as request A6 of 02 words it: slips in, one line of text for each out.
 
 use crate::calls::{check_slip, Sequence};
 use crate::join::{register, Register};
 use crate::limits::SLIP_BYTES;
 use crate::refusals::Refusal;
+use crate::steps::degree;
 
-pub const HEADER: &str = "modulus count order register";
+/// 02, A6: "The header becomes "modulus count order start register"."
+pub const HEADER: &str = "modulus count order start register";
 
 /// "Writes a header, then a line for each."
 pub fn listing(slips: &[u8]) -> String {
@@ -47,9 +49,12 @@ fn checked(piece: &[u8]) -> Result<Sequence, Refusal> {
     check_slip(piece)
 }
 
-/// "Modulus, count, order (the length), and a_0 to a_l with commas."
+/// "Modulus, count", then 02, A6: "From now on order is the degree of a, start is the length,
+/// and the register prints a_0 up to the order", as before with commas.
 pub fn line(sequence: &Sequence, register: &Register) -> String {
-    let a: Vec<String> = register.a[..=register.length].iter().map(u64::to_string).collect();
     let count = sequence.terms.len();
-    format!("{} {} {} {}", sequence.modulus, count, register.length, a.join(","))
+    let order = degree(&register.a).expect("a_0 is 1, so that a is not 0");
+    let start = register.length;
+    let a: Vec<String> = register.a[..=order].iter().map(u64::to_string).collect();
+    format!("{} {} {} {} {}", sequence.modulus, count, order, start, a.join(","))
 }

@@ -29,6 +29,7 @@ mod script;
 mod selftest;
 mod sequences;
 mod sheets;
+mod starts;
 mod steps;
 mod typed;
 mod working;

@@ -23,11 +23,12 @@ use crate::scenarios;
 use crate::script::replay;
 use crate::sequences;
 use crate::sheets;
+use crate::starts;
 use crate::steps::{self, coefficient, length, Pair};
 use crate::typed;
 
 /// The groups in the order in which they run.
-const GROUPS: [(&str, fn(&mut Group)); 34] = [
+const GROUPS: [(&str, fn(&mut Group)); 35] = [
     ("cases 1 to 15", cases::cases),
     ("tables 1 and 2 of 000", cases::tables),
     ("sheets and their text by hand", cases::sheets_by_hand),
@@ -44,6 +45,7 @@ const GROUPS: [(&str, fn(&mut Group)); 34] = [
     ("reported registers", registers),
     ("lists of calls, making and serving", desk),
     ("scripts and listing", scripts),
+    ("order, start and register in the listing", starts::lines),
     ("random slips, where they are wrong", faults::slips),
     ("random claims, how they are bad", faults::claims),
     ("scripts, slips and lines meet every refusal", coverage::met),
@@ -357,7 +359,7 @@ fn listings(group: &mut Group) {
         group.check(text.ends_with('\n'), || format!("end of seed {seed}"));
         group.check(slips == sequences::slips(seed, 10), || format!("slips of seed {seed}"));
     }
-    let header = "modulus count order register\n";
+    let header = "modulus count order start register\n";
     group.check(listing(&[]) == header, || String::from("no slips"));
     for size in 1..SLIP_BYTES {
         let text = listing(&vec![0; size]);

@@ -2,7 +2,7 @@
 
 use crate::apply::apply;
 use crate::calls::*;
-use crate::cases::{reading_of, SHEET_OF_TABLE_2};
+use crate::cases::{padded, reading_of, SHEET_OF_TABLE_2};
 use crate::checks::Group;
 use crate::compact;
 use crate::join;
@@ -15,6 +15,7 @@ use crate::scenarios;
 use crate::script::{hash, record_bytes, replay, Call, Operation};
 use crate::selftest::sample;
 use crate::sequences;
+use crate::starts::read_back;
 use crate::steps::{History, StepRecord};
 use crate::working::{working, SHEET_HEADER};
 
@@ -278,15 +279,15 @@ fn without_sheets(group: &mut Group, text: &str) -> String {
     while let Some(line) = lines.next() {
         listed.push_str(line);
         listed.push('\n');
-        let words: Vec<&str> = line.split(' ').collect();
-        let [m, n, l, a] = words[..] else { continue };
-        let (Ok(m), Ok(n), Ok(l)) = (m.parse(), n.parse(), l.parse()) else { continue };
+        let Some(told) = read_back(line) else { continue };
         group.check(lines.next() == Some(SHEET_HEADER), || format!("header after {line}"));
-        let records = lines.by_ref().take(join::sheet_size(m, n));
+        let records = lines.by_ref().take(join::sheet_size(told.modulus, told.count));
         let sheet: Vec<StepRecord> = records.map(record_read).collect();
-        let told: Vec<u64> = a.split(',').filter_map(|number| number.parse().ok()).collect();
-        let same = apply(m, n, &sheet)
-            .is_some_and(|register| register.length == l && register.a[..=l] == told);
+        let same = apply(told.modulus, told.count, &sheet).is_some_and(|register| {
+            register.length == told.start
+                && told.register.len() == told.order + 1
+                && register.a == padded(&told.register, A_CELLS)
+        });
         group.check(same, || format!("the sheet after {line}"));
     }
     listed

@@ -58,6 +58,18 @@ at-cells s n i h =
     let z : 0 + i ≡ i = omega arith in
     at-tabulate n (λ i. cellAt s (0 + i)) i h ∙ ap (cellAt s) z
 
+-- a cell that was written holds its number
+pub cell-of : (n : ℕ) (f : ℕ → ℕ) (k : ℕ) → k < n → f k < 65536 → cellAt (bytesOf (tabulate n f)) k ≡ f k
+cell-of n f k h s =
+    let e : at (tabulate n f) k ≡ f k = at-tabulate n f k h in
+    cellAt-bytesOf (tabulate n f) k (omega arith) ∙ e
+
+-- the numbers that were written are read back
+pub cells-back : (n : ℕ) (f : ℕ → ℕ) → ((i : ℕ) → i < n → f i < 65536) → cellsFrom (bytesOf (tabulate n f)) 0 n ≡ tabulate n f
+cells-back n f small =
+    tabulate-eq n (λ i. cellAt (bytesOf (tabulate n f)) (0 + i)) f
+    (λ i h. ap (cellAt (bytesOf (tabulate n f))) (let e : 0 + i ≡ i = omega arith in e) ∙ cell-of n f i h (small i h))
+
 -- what was read is written again
 pub bytesOf-cells : (s : List ℕ) (n : ℕ) → length s ≡ 2 * n → ((j : ℕ) → at s j < 256) → bytesOf (cellsFrom s 0 n) ≡ s
 unfolding bytesOf tabulate

@@ -8,9 +8,8 @@ use lib.ListN.{length}
 use borrow.Author.Tests.{eq-eqb, le-leb, lt-leb}
 use Rattle.lists.specs.Choice.{pick}
 use Rattle.lists.specs.Table.{at, tabulate}
-use Rattle.lists.proofs.Table.{at-tabulate}
 use Rattle.cells.specs.Cell.{cellAt, bytesOf}
-use Rattle.cells.proofs.Laws.{cellAt-bytesOf}
+use Rattle.cells.proofs.Laws.{cell-of}
 use Rattle.residue.proofs.Congruence.{of-eq}
 use Rattle.recurrence.specs.Least.{Least}
 use Rattle.recurrence.specs.Register as T
@@ -28,12 +27,6 @@ use Rattle.sequence.specs.Report.{registerOf, aBuffer, bBuffer, profileBuffer, 
 use Rattle.guarantees.specs.Calls.{taken}
 use Rattle.guarantees.specs.Claims.{ShownBy, Demand3}
 use Rattle.guarantees.proofs.State.{holding, padded, padded-at, Good, sound-for, opens, state, good}
-
--- a cell that was written holds its number
-pub cell-of : (n : ℕ) (f : ℕ → ℕ) (k : ℕ) → k < n → f k < 65536 → cellAt (bytesOf (tabulate n f)) k ≡ f k
-cell-of n f k h s =
-    let e : at (tabulate n f) k ≡ f k = at-tabulate n f k h in
-    cellAt-bytesOf (tabulate n f) k (omega arith) ∙ e
 
 module _ (m : ℕ) (least : 2 ≤ m) (most : m ≤ maxModulus) (ts : List ℕ) (g : Good m ts) where
   big : 1 < m

@@ -10,3 +10,5 @@ pub mod Testing
 pub mod Refusals
 pub mod Lines
 pub mod Typed
+pub mod Listing
+pub mod Printed

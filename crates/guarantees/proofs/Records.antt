@@ -16,7 +16,7 @@ use Rattle.lists.specs.Table.{at, tabulate}
 use Rattle.lists.proofs.Table.{length-tabulate, at-tabulate-all, tabulate-eq}
 use Rattle.lists.proofs.Search.{first-passes, lt-or-le}
 use Rattle.cells.specs.Cell.{cellAt, cellsFrom, bytesOf, equal}
-use Rattle.cells.proofs.Laws.{equal-eq}
+use Rattle.cells.proofs.Laws.{cells-back, equal-eq}
 use Rattle.recurrence.specs.Polynomial.{conv}
 use Rattle.recurrence.specs.Register.{Register, register}
 use Rattle.recurrence.specs.Running.{firstDifference}
@@ -42,13 +42,7 @@ use Rattle.catalogue.proofs.Places.{layout-query, layout-a, layout-b, layout-le
 use Rattle.guarantees.specs.Calls.{Call, push, afterAll, taken}
 use Rattle.guarantees.specs.Claims.{MadeRecord, MadeCatalogue, termsOf, AgreesWith, MadeServedReported}
 use Rattle.guarantees.proofs.State.{holding, padded, padded-at, Good, state, all-pushed}
-use Rattle.guarantees.proofs.Demand.{cell-of, reported, same-register}
-
--- the numbers that were written are read back
-cells-back : (n : ℕ) (f : ℕ → ℕ) → ((i : ℕ) → i < n → f i < 65536) → cellsFrom (bytesOf (tabulate n f)) 0 n ≡ tabulate n f
-cells-back n f small =
-    tabulate-eq n (λ i. cellAt (bytesOf (tabulate n f)) (0 + i)) f
-    (λ i h. ap (cellAt (bytesOf (tabulate n f))) (let e : 0 + i ≡ i = omega arith in e) ∙ cell-of n f i h (small i h))
+use Rattle.guarantees.proofs.Demand.{reported, same-register}
 
 module _ (query : List ℕ) (fine : checkOf query ≡ Done) where
   s : Sequence
@@ -211,7 +205,7 @@ record-query query h = layout-query query (sequenceOf query) h
 
 -- ---- making
 
-making : (query out : List ℕ) → checkOf query ≡ Done → length out ≡ recordBytes → synthesizeOf query out ≡ Done
+pub making : (query out : List ℕ) → checkOf query ≡ Done → length out ≡ recordBytes → synthesizeOf query out ≡ Done
 making query out fine h = synthesize-query query out h ∙ fine
 
 making-checked : (query out : List ℕ) → synthesizeOf query out ≡ Done → checkOf query ≡ Done
@@ -257,7 +251,7 @@ module _ (query catalogue out : List ℕ) (fine : checkOf query ≡ Done) (made 
           take-take queryBytes recordBytes (drop (j * recordBytes) catalogue) (omega arith)
           ∙ sym (equal-eq query (queryAt catalogue j) (first-passes (records catalogue) (λ k. equal query (queryAt catalogue k)) h))
 
-  outcome : (((j : ℕ) × (lookUpOf query catalogue out ≡ Found j)) ⊎ (lookUpOf query catalogue out ≡ Made))
+  pub outcome : (((j : ℕ) × (lookUpOf query catalogue out ≡ Found j)) ⊎ (lookUpOf query catalogue out ≡ Made))
       × (servedIn (lookUpOf query catalogue out) query catalogue out ≡ recordOf query)
   outcome = go (lt-or-le j (records catalogue))
     where

@@ -2,11 +2,12 @@
 -- Assumes nothing.
 use mathlib.Core.Path.{refl}
 use Rattle.lists.specs.Table.{tabulate}
+use Rattle.lists.specs.Text.{bytes}
 use Rattle.cells.specs.Cell.{bytesOf}
 use Rattle.sequence.specs.Answers.{firstOf}
 use Rattle.lines.specs.Reading.{readFrom}
 use Rattle.lines.specs.Reply.{readOf}
-use Rattle.guarantees.specs.Typed.{bytes, times, Typed}
+use Rattle.guarantees.specs.Typed.{times, Typed}
 
 pub typed : Typed
 unfolding tabulate bytesOf firstOf readFrom readOf bytes times

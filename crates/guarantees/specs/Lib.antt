@@ -7,3 +7,4 @@ pub mod Coded
 pub mod Columns
 pub mod Lines
 pub mod Typed
+pub mod Listing

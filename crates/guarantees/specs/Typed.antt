@@ -3,9 +3,9 @@
 use mathlib.Core.Path.{_≡_}
 use mathlib.Core.List.{List, [], _∷_, _++_}
 use Prim.Native.Nat.{ℕ, zero, suc, _+_, _*_}
-use Prim.Native.Char.{code}
-use Prim.Native.String.{String, [] as end, _∷_ as _then_}
+use Prim.Native.String.{String}
 use lib.ListN.{replicate}
+use Rattle.lists.specs.Text.{bytes}
 use Rattle.sequence.specs.Limits.{queryBytes}
 use Rattle.sequence.specs.Answers.{Answer, granted, refused, refusedAt}
 use Rattle.sequence.specs.Rules.{queryOf}
@@ -13,11 +13,6 @@ use Rattle.lines.specs.Reply.{readAnswer}
 use Rattle.diverthrone.specs.Codes.{codeOf}
 use Rattle.guarantees.specs.Cases.{zeros}
 use Rattle.guarantees.specs.Lines.{exitOf}
-
--- the bytes of a text of plain letters
-unfoldable pub bytes : String → List ℕ
-bytes end = []
-bytes (c then s) = code c ∷ bytes s
 
 -- the same bytes n times
 unfoldable pub times : ℕ → List ℕ → List ℕ

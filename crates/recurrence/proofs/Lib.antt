@@ -9,3 +9,4 @@ pub mod Theorem
 pub mod Register
 pub mod Running
 pub mod Working
+pub mod Start

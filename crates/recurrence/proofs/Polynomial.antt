@@ -1,9 +1,10 @@
 -- Laws of polynomials as lists: their coefficients, that these stay below q, and L of a pair as the least bound on its degrees.
 -- Assumes nothing.
-use mathlib.Core.Path.{_≡_, refl, ap, _∙_, fun-ext}
+use mathlib.Core.Path.{_≡_, refl, sym, ap, _∙_, fun-ext}
 use mathlib.Core.List.{List, [], _∷_}
 use Prim.Native.Nat.{ℕ, zero, suc, _+_, _*_, _≤_, _<_}
 use native.Mathlib.Nat.{mod-lt}
+use native.Mathlib.Decide.{ℕ-discrete, decLt}
 use native.Mathlib.Omega.{arith}
 use Rattle.lists.specs.Table.{at}
 use Rattle.residue.specs.Congruence.{Cong}
@@ -109,6 +110,41 @@ top-least (x ∷ xs) l h = go (top xs) refl x refl l h (λ m. top-least xs m)
     go zero e (suc y) f (suc l) h ih = omega arith
     go (suc n) e y f zero h ih = absurd (omega (arith, ih zero (λ i z. h (suc i) (omega arith))))
     go (suc n) e y f (suc l) h ih = omega (arith, ih l (λ i z. h (suc i) (omega arith)))
+
+-- it is the last place that is not 0
+pub degree-past : (xs : List ℕ) (i : ℕ) → degree xs < i → at xs i ≡ zero
+unfolding degree
+degree-past xs i h = top-from xs i (omega arith)
+
+pub degree-most : (xs : List ℕ) (l : ℕ) → ((i : ℕ) → l < i → at xs i ≡ zero) → degree xs ≤ l
+unfolding degree
+degree-most xs l h = omega (arith, top-least xs (suc l) h)
+
+pub degree-is : (xs : List ℕ) (i : ℕ) → (at xs i ≡ zero → ⊥) → ((j : ℕ) → i < j → at xs j ≡ zero) → degree xs ≡ i
+degree-is xs i nonzero past = go (decLt (degree xs) i)
+  where
+    go : Dec (degree xs < i) → degree xs ≡ i
+    go (yes h) = absurd (nonzero (degree-past xs i h))
+    go (no h) = omega (arith, degree-most xs i past)
+
+pub degree-last : (xs : List ℕ) → (at xs zero ≡ zero → ⊥) → at xs (degree xs) ≡ zero → ⊥
+unfolding degree
+degree-last xs nonzero last = go (top xs) refl
+  where
+    go : (n : ℕ) → top xs ≡ n → ⊥
+    go zero e = nonzero (top-from xs zero (omega arith))
+    go (suc n) e =
+        let most : top xs ≤ n = top-least xs n (λ i h. past i h (ℕ-discrete i n)) in
+        absurd (omega arith)
+      where
+        past : (i : ℕ) → n ≤ i → Dec (i ≡ n) → at xs i ≡ zero
+        past i h (yes f) = ap (at xs) (f ∙ omega arith) ∙ last
+        past i h (no f) = top-from xs i (omega (arith, f))
+
+-- and depends on the coefficients only
+pub degree-same : (xs ys : List ℕ) → ((i : ℕ) → at xs i ≡ at ys i) → degree xs ≡ degree ys
+degree-same xs ys same =
+    omega (arith, degree-most xs (degree ys) (λ i h. same i ∙ degree-past ys i h), degree-most ys (degree xs) (λ i h. sym (same i) ∙ degree-past xs i h))
 
 -- L bounds the degrees of its pair
 pub len-deg : (q : ℕ) (w : Pair) → Deg q (len w) (at (w .a)) (at (w .b))

@@ -1,0 +1,80 @@
+-- Laws of the line of a query: what stands in its record is what its sequence and its register are.
+-- Assumes nothing.
+use mathlib.Core.Path.{_≡_, sym, ap, ap₂, _∙_}
+use mathlib.Core.List.{List}
+use Prim.Native.Nat.{ℕ, _+_, _*_, _<_}
+use native.Mathlib.Omega.{arith}
+use lib.ListN.{length, take, drop}
+use lib.Seq.{getD-take}
+use Rattle.lists.specs.Table.{at}
+use Rattle.lists.proofs.Table.{at-tabulate-all}
+use Rattle.cells.specs.Cell.{cellAt}
+use Rattle.cells.proofs.Laws.{cells-back}
+use Rattle.recurrence.proofs.Register.{Right, register-right}
+use Rattle.sequence.specs.declared.Sequence.{Sequence}
+use Rattle.sequence.specs.declared.Refusal.{Refusal}
+use Rattle.sequence.specs.declared.Outcome.{Outcome}
+use Rattle.sequence.specs.declared.Outcome.the-variants.{Done, Refused}
+use Rattle.sequence.specs.Limits.{queryBytes, aBytes, maxCells}
+use Rattle.sequence.specs.Rules.{sequenceOf, checkOf, IsSound}
+use Rattle.sequence.specs.Report.{registerOf, aBuffer}
+use Rattle.sequence.proofs.Laws.{check-done}
+use Rattle.candidate.specs.Rules.{aCells}
+use Rattle.catalogue.specs.Rules.{recordBytes, aPlace, lengthCell, recordOf, synthesizeOf}
+use Rattle.catalogue.proofs.Refusals.{synthesize-query}
+use Rattle.catalogue.proofs.Places.{layout-query, layout-a, layout-length-cell}
+use Rattle.formatting.specs.Listing.{registerLine, recordLine, refusalLine, lineOf, queryLine}
+use Rattle.formatting.proofs.Wording.{line-same}
+
+module _ (s : Sequence) (sound : IsSound s) where
+  right : Right (s .modulus) (s .terms) (s .count) (registerOf s)
+  right = register-right (s .modulus) (sound .least) (s .terms) (s .count)
+
+  -- the coefficients are read back from the cells of a
+  pub a-back : (i : ℕ) → at (aCells (aBuffer s)) i ≡ at (registerOf s .a) i
+  a-back i =
+      ap (λ (xs : List ℕ). at xs i) (cells-back maxCells (at (registerOf s .a)) (λ j h. omega (arith, right .small-a j, sound .most)))
+      ∙ at-tabulate-all maxCells (at (registerOf s .a)) (λ j h. right .past-a j (omega (arith, right .short, sound .count))) i
+
+-- the record begins with the query
+head-cell : (entry query : List ℕ) (i : ℕ) → take queryBytes entry ≡ query → 2 * i + 1 < queryBytes → cellAt entry i ≡ cellAt query i
+head-cell entry query i e h = sym (ap (λ (x : List ℕ). cellAt x i) (sym e)
+    ∙ ap₂ (λ (x y : ℕ). x + 256 * y) (getD-take queryBytes entry (2 * i) 0 (omega arith)) (getD-take queryBytes entry (2 * i + 1) 0 h))
+
+module _ (query : List ℕ) (fine : checkOf query ≡ Done) where
+  abbrev entry : List ℕ
+  entry = recordOf query
+
+  -- the line has what the register's cells of the record show
+  pub line-shown : registerLine (cellAt query 0) (cellAt query 1) (cellAt entry lengthCell) (aCells (take aBytes (drop aPlace entry))) ≡ queryLine query
+  unfolding queryLine recordOf sequenceOf
+  line-shown =
+      ap (λ (l : ℕ). registerLine (cellAt query 0) (cellAt query 1) l (aCells (take aBytes (drop aPlace entry))))
+      (layout-length-cell query (sequenceOf query) long (omega (arith, right (sequenceOf query) sound .short, sound .count)))
+      ∙ line-same (cellAt query 0) (cellAt query 1) _ _ _
+      (λ i. ap (λ (x : List ℕ). at (aCells x) i) (layout-a query (sequenceOf query) long) ∙ a-back (sequenceOf query) sound i)
+      ∙ sym (ap (λ (o : Outcome). lineOf o (sequenceOf query)) fine)
+    where
+      long : length query ≡ queryBytes
+      long = check-done query fine .0
+
+      sound : IsSound (sequenceOf query)
+      sound = check-done query fine .1
+
+  pub line-made : recordLine entry ≡ queryLine query
+  unfolding recordOf
+  line-made =
+      ap₂ (λ (m n : ℕ). registerLine m n (cellAt entry lengthCell) (aCells (take aBytes (drop aPlace entry))))
+      (head-cell entry query 0 front (omega arith)) (head-cell entry query 1 front (omega arith))
+      ∙ line-shown
+    where
+      front : take queryBytes entry ≡ query
+      front = layout-query query (sequenceOf query) (check-done query fine .0)
+
+module _ (query out : List ℕ) (size : length out ≡ recordBytes) where
+  pub query-refused : {r : Refusal} → synthesizeOf query out ≡ Refused r → refusalLine r ≡ queryLine query
+  unfolding queryLine
+  query-refused h = sym (ap (λ (o : Outcome). lineOf o (sequenceOf query)) (sym (synthesize-query query out size) ∙ h))
+
+  pub query-made : synthesizeOf query out ≡ Done → recordLine (recordOf query) ≡ queryLine query
+  query-made h = line-made query (sym (synthesize-query query out size) ∙ h)

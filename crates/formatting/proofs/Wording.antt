@@ -1,0 +1,42 @@
+-- Laws of the listing's lines: the pieces of each, their room, and what a line depends on.
+-- Assumes nothing.
+use mathlib.Core.Path.{_≡_, refl, sym, ap, ap₂, _∙_}
+use mathlib.Core.List.{List, [], _∷_, _++_}
+use Prim.Native.Nat.{ℕ, suc, _+_, _≤_, _<_}
+use native.Mathlib.Omega.{arith}
+use Rattle.lists.specs.Table.{at, tabulate}
+use Rattle.lists.specs.Text.{bytes}
+use Rattle.lists.proofs.Table.{at-past, length-tabulate, tabulate-eq}
+use Rattle.cells.specs.Cell.{cellAt}
+use Rattle.recurrence.specs.Polynomial.{degree}
+use Rattle.recurrence.proofs.Polynomial.{degree-most, degree-same}
+use Rattle.sequence.specs.declared.Refusal.{Refusal}
+use Rattle.sequence.specs.declared.Place.{Place}
+use Rattle.sequence.specs.Limits.{maxCells}
+use Rattle.sequence.specs.Answers.{refusal, placed}
+use Rattle.candidate.specs.Rules.{aCells}
+use Rattle.formatting.specs.Text.{numeral, separated}
+use Rattle.formatting.specs.Listing.{registerLine, placeText, refusalText}
+
+-- there are 129 cells
+pub degree-cells : (a : List ℕ) → degree (aCells a) < maxCells
+degree-cells a =
+    let most : degree (aCells a) ≤ 128 = degree-most (aCells a) 128 (λ i h. at-past (aCells a) i (omega (arith, length-tabulate maxCells (λ j. cellAt a (0 + j))))) in
+    omega arith
+
+-- the order is the degree
+pub register-pieces : (m n d l : ℕ) (a : List ℕ) → d ≡ degree a
+    → separated (bytes " ") (m ∷ n ∷ d ∷ l ∷ []) ++ bytes " " ++ separated (bytes ",") (tabulate (suc d) (at a)) ++ bytes "\n" ≡ registerLine m n l a
+unfolding registerLine
+register-pieces m n d l a e =
+    ap (λ (z : ℕ). separated (bytes " ") (m ∷ n ∷ z ∷ l ∷ []) ++ bytes " " ++ separated (bytes ",") (tabulate (suc z) (at a)) ++ bytes "\n") e
+
+pub refusal-pieces : (r : Refusal) (n : ℕ) (p : Place) → n ≡ refusal r .number → placed p ≡ refusal r .values
+    → bytes "refused " ++ numeral n ++ placeText (placed p) ≡ refusalText r
+unfolding refusalText
+refusal-pieces r n p e f = ap₂ (λ (x : ℕ) (ys : List ℕ). bytes "refused " ++ numeral x ++ placeText ys) e f
+
+-- the line depends on the coefficients only
+pub line-same : (m n l : ℕ) (xs ys : List ℕ) → ((i : ℕ) → at xs i ≡ at ys i) → registerLine m n l xs ≡ registerLine m n l ys
+unfolding registerLine
+line-same m n l xs ys same = rw (degree-same xs ys same, tabulate-eq (suc (degree ys)) (at xs) (at ys) (λ i h. same i)) refl

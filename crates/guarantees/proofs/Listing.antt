@@ -1,0 +1,101 @@
+-- The claims about the order, the start and the listing's lines, for every list of calls.
+-- Assumes nothing.
+use mathlib.Core.Path.{_≡_, sym, ap, ap₂, _∙_, subst}
+use mathlib.Core.List.{List}
+use Prim.Native.Nat.{ℕ, zero, suc, _≤_, _<_}
+use native.Mathlib.Omega.{arith}
+use lib.ListN.{length}
+use Rattle.lists.specs.Table.{at}
+use Rattle.lists.proofs.Table.{at-tabulate-all}
+use Rattle.cells.specs.Cell.{cellAt}
+use Rattle.cells.proofs.Laws.{cells-back}
+use Rattle.recurrence.specs.Polynomial.{degree}
+use Rattle.recurrence.specs.Register as T
+use Rattle.recurrence.proofs.Polynomial.{degree-past}
+use Rattle.recurrence.proofs.Register.{Right, register-right}
+use Rattle.recurrence.proofs.Start.{order-last, order-within, start-holds, start-first}
+use Rattle.sequence.specs.declared.Sequence.{Sequence}
+use Rattle.sequence.specs.declared.Outcome.{Outcome}
+use Rattle.sequence.specs.declared.Outcome.the-variants.{Done}
+use Rattle.sequence.specs.declared.Reported.{Reported}
+use Rattle.sequence.specs.declared.Reported.the-variants.{Length, Refused}
+use Rattle.sequence.specs.Limits.{maxModulus, maxCells, aBytes, bBytes}
+use Rattle.sequence.specs.Rules.{openOf, checkOf}
+use Rattle.sequence.specs.Report.{reportOf, filled}
+use Rattle.candidate.specs.Rules.{aCells}
+use Rattle.catalogue.specs.Rules.{lengthCell, recordOf}
+use Rattle.formatting.specs.Listing.{registerLine, recordLine}
+use Rattle.formatting.proofs.Records.{line-shown, line-made}
+use Rattle.guarantees.specs.Calls.{Call, afterAll, taken}
+use Rattle.guarantees.specs.Claims.{termsOf, AgreesWith}
+use Rattle.guarantees.specs.Listing.{OrderAndStart, Ordered, aAfter, EveryOrder, TheListing}
+use Rattle.guarantees.proofs.State.{holding, Good, state, good}
+use Rattle.guarantees.proofs.Demand.{reported, a-written}
+use Rattle.guarantees.proofs.Records.{least, most, agrees, making, outcome}
+
+module _ (m : ℕ) (low : 2 ≤ m) (high : m ≤ maxModulus) (ts : List ℕ) (g : Good m ts) (a b : List ℕ) (ha : length a ≡ aBytes) (hb : length b ≡ bBytes) where
+  abbrev x : T.Register
+  x = T.register m ts (length ts)
+
+  abbrev shown : List ℕ
+  shown = aCells (aAfter (holding m ts) a b)
+
+  right : Right m ts (length ts) x
+  right = register-right m low ts (length ts)
+
+  -- the cells of a are the register's coefficients
+  same : (i : ℕ) → at shown i ≡ at (x .a) i
+  same i =
+      ap (λ (y : List ℕ). at (aCells y) i) (a-written m low high ts g a b ha hb)
+      ∙ ap (λ (y : List ℕ). at y i) (cells-back maxCells (at (x .a)) (λ j h. omega (arith, right .small-a j)))
+      ∙ at-tabulate-all maxCells (at (x .a)) (λ j h. right .past-a j (omega (arith, right .short, g .size))) i
+
+  pub ordered : Ordered m ts (reportOf (holding m ts) a b) (aAfter (holding m ts) a b)
+  ordered =
+      record {
+        start = x .length;
+        reported = reported m low high ts g a b ha hb;
+        means = record {
+          last = order-last m low ts (length ts) x right shown same;
+          past = degree-past shown;
+          whole = at-tabulate-all (suc (degree shown)) (at shown) (λ i h. degree-past shown i (omega arith));
+          least = right .least;
+          within = order-within m low ts (length ts) x right shown same;
+          holds = start-holds m low ts (length ts) x right shown same;
+          first = start-first m low ts (length ts) x right shown same;
+        };
+      }
+
+pub every-order : EveryOrder
+unfolding EveryOrder
+every-order m low high calls a b ha hb =
+    subst (λ (s : Sequence). Ordered m (taken m calls) (reportOf s a b) (aAfter s a b)) (sym (state m low high calls))
+    (ordered m low high (taken m calls) (good m low high calls) a b ha hb)
+
+told : Reported → ℕ
+told (Length l) = l
+told (Refused r) = zero
+
+pub the-listing : TheListing
+unfolding TheListing EveryOrder told
+the-listing query catalogue out fine made long calls a b h ha hb =
+    record {
+      ordered = o;
+      line =
+          sym (line-shown query fine)
+          ∙ ap₂ (λ (l : ℕ) (y : List ℕ). registerLine (cellAt query 0) (cellAt query 1) l (aCells y)) same-start (sym (agree .a-same));
+      made = sym (ap (λ (t : Outcome). recordLine (filled t (recordOf query) out)) (making query out fine long) ∙ line-made query fine);
+      served = sym (ap recordLine (outcome query catalogue out fine made long .1) ∙ line-made query fine);
+    }
+  where
+    s : Sequence
+    s = afterAll (openOf (cellAt query 0) .sequence) calls
+
+    o : Ordered (cellAt query 0) (termsOf query) (reportOf s a b) (aAfter s a b)
+    o = subst (λ (ts : List ℕ). Ordered (cellAt query 0) ts (reportOf s a b) (aAfter s a b)) h (every-order (cellAt query 0) (least query fine) (most query fine) calls a b ha hb)
+
+    agree : AgreesWith (cellAt query 0) calls a b (recordOf query)
+    agree = agrees query fine calls a b h ha hb
+
+    same-start : cellAt (recordOf query) lengthCell ≡ o .start
+    same-start = ap told (sym (agree .length-same) ∙ o .reported)
