@@ -34,8 +34,9 @@ module _ (a : List ℕ) where
       at-or j h (yes e) = rw e (at-cells a maxCells i (x .within) ∙ sym read ∙ none)
       at-or j h (no e) = x .zeros j (omega (arith, e))
 
-  pub past-found : {i v : ℕ} → ZeroPast a i → v ≡ cellAt a i → (v ≡ zero → ⊥) → i ≡ degree (aCells a)
-  past-found {i} {v} x read some = sym (degree-is (aCells a) i (λ e. some (read ∙ sym (at-cells a maxCells i (x .within)) ∙ e)) (x .zeros))
+  pub past-found : {i v : ℕ} → ZeroPast a i → v ≡ cellAt a i → zero < v → i ≡ degree (aCells a)
+  past-found {i} {v} x read some =
+      sym (degree-is (aCells a) i (λ e. absurd (omega (arith, read ∙ sym (at-cells a maxCells i (x .within)) ∙ e))) (x .zeros))
 
   pub past-none : {i : ℕ} → ZeroPast a i → i ≤ zero → zero ≡ degree (aCells a)
   past-none {i} x none = omega (arith, degree-most (aCells a) i (x .zeros))

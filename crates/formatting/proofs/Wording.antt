@@ -24,12 +24,12 @@ degree-cells a =
     let most : degree (aCells a) ≤ 128 = degree-most (aCells a) 128 (λ i h. at-past (aCells a) i (omega (arith, length-tabulate maxCells (λ j. cellAt a (0 + j))))) in
     omega arith
 
--- the order is the degree
-pub register-pieces : (m n d l : ℕ) (a : List ℕ) → d ≡ degree a
-    → separated (bytes " ") (m ∷ n ∷ d ∷ l ∷ []) ++ bytes " " ++ separated (bytes ",") (tabulate (suc d) (at a)) ++ bytes "\n" ≡ registerLine m n l a
+-- the number that stands as the order is the degree, and so is the last place that is printed
+pub register-pieces : (m n order d l : ℕ) (a : List ℕ) → order ≡ degree a → d ≡ degree a
+    → separated (bytes " ") (m ∷ n ∷ order ∷ l ∷ []) ++ bytes " " ++ separated (bytes ",") (tabulate (suc d) (at a)) ++ bytes "\n" ≡ registerLine m n l a
 unfolding registerLine
-register-pieces m n d l a e =
-    ap (λ (z : ℕ). separated (bytes " ") (m ∷ n ∷ z ∷ l ∷ []) ++ bytes " " ++ separated (bytes ",") (tabulate (suc z) (at a)) ++ bytes "\n") e
+register-pieces m n order d l a e f =
+    ap₂ (λ (x y : ℕ). separated (bytes " ") (m ∷ n ∷ x ∷ l ∷ []) ++ bytes " " ++ separated (bytes ",") (tabulate (suc y) (at a)) ++ bytes "\n") e f
 
 pub refusal-pieces : (r : Refusal) (n : ℕ) (p : Place) → n ≡ refusal r .number → placed p ≡ refusal r .values
     → bytes "refused " ++ numeral n ++ placeText (placed p) ≡ refusalText r

@@ -1,5 +1,6 @@
 -- `formatting::order` meets its contract: past the place that is looked at every cell is 0.
 -- Assumes nothing.
+use native.Mathlib.Omega.{arith}
 use borrow.Author.Needs.{needs}
 use Rattle.formatting.proofs.Degree.{ZeroPast, past-last, past-next, past-found, past-none}
 use Rattle.formatting.proofs.order.Statement.{statement}
@@ -24,7 +25,7 @@ cast-result : tie.Need-cast-result Inv-loop μ-loop
 cast-result c = search needs
 
 returns : tie.Need-returns Inv-loop μ-loop
-returns c = past-found _ (c .before .before .before .loop .inv) (c .before .cell .ensures .0) (c .if1 .taken)
+returns c = past-found _ (c .before .before .before .loop .inv) (c .before .cell .ensures .0) (omega (arith, c .if1 .taken))
 
 sub-i-2 : tie.Need-sub-i-2 Inv-loop μ-loop
 sub-i-2 c = search needs
@@ -33,7 +34,7 @@ loop-less : tie.Need-loop-less Inv-loop μ-loop
 loop-less c = search needs
 
 loop-again : tie.Need-loop-again Inv-loop μ-loop
-loop-again c = past-next _ (c .before .before .before .loop .inv) (c .before .cell .ensures .0) (c .if1 .left) (c .before .before .loop-test .taken)
+loop-again c = past-next _ (c .before .before .before .loop .inv) (c .before .cell .ensures .0) (omega (arith, c .if1 .left)) (omega arith)
 
 returns-2 : tie.Need-returns-2 Inv-loop μ-loop
 returns-2 c = past-none _ (c .before .loop .inv) (c .loop-test .left)

@@ -52,7 +52,8 @@ returns c =
     let numbers = c .before .before .before .before .before .before .before .before .before .before .before .before .before .before .before .before .put-numbers .ensures in
     let last = c .before .before .before .before .before .before .before .put-coefficients .ensures in
     let line = put-more (put-more (put-more (numbers .0) (c .before .before .before .before .before .before .before .before .before .before .before .put .ensures)) (last .0)) (c .before .before .put2 .ensures) in
-    let whole = put-as (register-pieces (s .args .modulus) (s .args .count) _ (s .args .l) (aCells (s .args .a .now)) (c .before .before .before .before .before .before .before .before .before .before .before .before .before .before .before .before .before .before .order .ensures)) line in
+    let d = c .before .before .before .before .before .before .before .before .before .before .before .before .before .before .before .before .before .before .order .ensures in
+    let whole = put-as (register-pieces (s .args .modulus) (s .args .count) _ _ (s .args .l) (aCells (s .args .a .now)) d d) line in
     (put-counts whole, whole)
 
 pub register-line-spec : {M : Type 1} → statement M
