@@ -15,8 +15,9 @@ use Rattle.sequence.specs.declared.Place.{Place}
 use Rattle.sequence.specs.Limits.{maxCells}
 use Rattle.sequence.specs.Answers.{refusal, placed}
 use Rattle.candidate.specs.Rules.{aCells}
-use Rattle.formatting.specs.Text.{numeral, separated}
+use Rattle.formatting.specs.Text.{numeral, separated, Put}
 use Rattle.formatting.specs.Listing.{registerLine, placeText, refusalText}
+use Rattle.formatting.proofs.Putting.{put-as}
 
 -- there are 129 cells
 pub degree-cells : (a : List ℕ) → degree (aCells a) < maxCells
@@ -25,11 +26,12 @@ degree-cells a =
     omega arith
 
 -- the number that stands as the order is the degree, and so is the last place that is printed
-pub register-pieces : (m n order d l : ℕ) (a : List ℕ) → order ≡ degree a → d ≡ degree a
-    → separated (bytes " ") (m ∷ n ∷ order ∷ l ∷ []) ++ bytes " " ++ separated (bytes ",") (tabulate (suc d) (at a)) ++ bytes "\n" ≡ registerLine m n l a
+pub register-told : {out out′ : List ℕ} {k r : ℕ} (m n order d l : ℕ) (a : List ℕ)
+    → Put out k (separated (bytes " ") (m ∷ n ∷ order ∷ l ∷ []) ++ bytes " " ++ separated (bytes ",") (tabulate (suc d) (at a)) ++ bytes "\n") out′ r
+    → order ≡ degree a → d ≡ degree a → Put out k (registerLine m n l a) out′ r
 unfolding registerLine
-register-pieces m n order d l a e f =
-    ap₂ (λ (x y : ℕ). separated (bytes " ") (m ∷ n ∷ x ∷ l ∷ []) ++ bytes " " ++ separated (bytes ",") (tabulate (suc y) (at a)) ++ bytes "\n") e f
+register-told m n order d l a p e f =
+    put-as (ap₂ (λ (x y : ℕ). separated (bytes " ") (m ∷ n ∷ x ∷ l ∷ []) ++ bytes " " ++ separated (bytes ",") (tabulate (suc y) (at a)) ++ bytes "\n") e f) p
 
 pub refusal-pieces : (r : Refusal) (n : ℕ) (p : Place) → n ≡ refusal r .number → placed p ≡ refusal r .values
     → bytes "refused " ++ numeral n ++ placeText (placed p) ≡ refusalText r

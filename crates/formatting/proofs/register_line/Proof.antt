@@ -4,8 +4,8 @@ use native.Mathlib.Omega.{arith}
 use borrow.Author.Needs.{needs}
 use Rattle.lists.specs.Text.{bytes}
 use Rattle.candidate.specs.Rules.{aCells}
-use Rattle.formatting.proofs.Putting.{put-size, put-counts, put-more, put-as}
-use Rattle.formatting.proofs.Wording.{degree-cells, register-pieces}
+use Rattle.formatting.proofs.Putting.{put-size, put-counts, put-more}
+use Rattle.formatting.proofs.Wording.{degree-cells, register-told}
 use Rattle.formatting.proofs.register_line.Statement.{statement}
 use Rattle.formatting.proofs.register_line.Tie as tie
 
@@ -53,7 +53,7 @@ returns c =
     let last = c .before .before .before .before .before .before .before .put-coefficients .ensures in
     let line = put-more (put-more (put-more (numbers .0) (c .before .before .before .before .before .before .before .before .before .before .before .put .ensures)) (last .0)) (c .before .before .put2 .ensures) in
     let d = c .before .before .before .before .before .before .before .before .before .before .before .before .before .before .before .before .before .before .order .ensures in
-    let whole = put-as (register-pieces (s .args .modulus) (s .args .count) _ _ (s .args .l) (aCells (s .args .a .now)) d d) line in
+    let whole = register-told (s .args .modulus) (s .args .count) _ _ (s .args .l) (aCells (s .args .a .now)) line d d in
     (put-counts whole, whole)
 
 pub register-line-spec : {M : Type 1} → statement M
