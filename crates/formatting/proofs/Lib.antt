@@ -4,3 +4,4 @@ pub mod Separated
 pub mod Degree
 pub mod Wording
 pub mod Records
+pub mod Reading

@@ -9,11 +9,10 @@ use native.Mathlib.Omega.{arith}
 use lib.Dec.{ltb}
 use borrow.Author.Tests.{lt-ltb, le-ltb}
 use Rattle.io.specs.Digits.{digits, Fewest}
-use Rattle.lists.specs.Search.{first}
 use Rattle.lists.proofs.Search.{is-first}
 use Rattle.formatting.specs.Text.{numeral}
 
-below-power : (j : ℕ) → j < 10 ^ j
+pub below-power : (j : ℕ) → j < 10 ^ j
 below-power zero = omega arith
 below-power (suc j) = omega (arith, below-power j)
 

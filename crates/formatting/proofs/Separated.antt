@@ -5,7 +5,7 @@ use mathlib.Core.List.{List, [], _∷_, _++_, append-nil, append-assoc}
 use Prim.Native.Nat.{ℕ, zero, suc, _+_, _*_, _≤_, _<_}
 use native.Mathlib.Omega.{arith}
 use lib.ListN.{length}
-use Rattle.lists.specs.Table.{at, tabulate}
+use Rattle.lists.specs.Table.{tabulate}
 use Rattle.lists.proofs.Table.{tabulate-last}
 use Rattle.formatting.specs.Text.{numeral, behind, separated, Put}
 use Rattle.formatting.proofs.Putting.{put-none, put-more, put-size, put-as}

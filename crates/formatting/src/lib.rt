@@ -8,18 +8,17 @@ use sequence::Place;
 use sequence::Refusal;
 use steps::CELLS;
 ghost use mathlib.Core.Path.{_≡_};
-ghost use mathlib.Core.List.{[], _∷_, _++_};
-ghost use Prim.Native.Nat.{_+_, _*_, _≤_, _<_, suc};
-ghost use lib.ListN.{length, take, drop};
+ghost use mathlib.Core.List.{[], _∷_};
+ghost use Prim.Native.Nat.{suc, _+_, _*_, _≤_, _<_};
+ghost use lib.ListN.{length};
 ghost use Rattle.io.specs.Counts.{Counts};
 ghost use Rattle.lists.specs.Table.{at, tabulate};
 ghost use Rattle.lists.specs.Text.{bytes};
-ghost use Rattle.cells.specs.Cell.{cellAt};
 ghost use Rattle.recurrence.specs.Polynomial.{degree};
 ghost use Rattle.sequence.specs.Limits.{maxCells, aBytes};
 ghost use Rattle.sequence.specs.Answers.{placed};
 ghost use Rattle.candidate.specs.Rules.{aCells};
-ghost use Rattle.catalogue.specs.Rules.{recordBytes, aPlace, lengthCell};
+ghost use Rattle.catalogue.specs.Rules.{recordBytes};
 ghost use Rattle.formatting.specs.Text.{numeral, behind, separated, Put};
 ghost use Rattle.formatting.specs.Listing.{lineBytes, header, registerLine, recordLine, placeText, refusalText, refusalLine, queryLine};
 
@@ -54,8 +53,8 @@ fn put_behind(c: u8, n: u64, out: &mut [u8], k: usize) -> usize
     ensures { λ r. ⌜ r ≤ k + 21 ⌝ }
 {
     let mark = [c];
-    let start = put(&mark, out, k);
-    put_number(n, out, start)
+    let place = put(&mark, out, k);
+    put_number(n, out, place)
 }
 
 // The order of the register with these cells of a: the degree, the last place that is not 0.
@@ -137,8 +136,8 @@ pub fn register_line(modulus: u32, count: u32, l: u32, a: &[u8], out: &mut [u8])
 {
     let d = order(a);
     let numbers = put_numbers(modulus, count, d, l, out);
-    let start = put(b" ", out, numbers);
-    let end = put_coefficients(a, d, out, start);
+    let place = put(b" ", out, numbers);
+    let end = put_coefficients(a, d, out, place);
     put(b"\n", out, end)
 }
 
@@ -164,8 +163,8 @@ pub fn refusal_text(r: Refusal, out: &mut [u8]) -> usize
     ensures { λ n. ⌜ Put (now (out .entry)) 0 (refusalText r) (now (out .exit)) n ⌝ }
     ensures { λ n. ⌜ n ≤ 52 ⌝ }
 {
-    let start = put(b"refused ", out, 0);
-    let end = put_number(sequence::number(r), out, start);
+    let place = put(b"refused ", out, 0);
+    let end = put_number(sequence::number(r), out, place);
     put_place(sequence::place_of(r), out, end)
 }
 

@@ -2,7 +2,7 @@
 -- Assumes nothing.
 use mathlib.Core.Path.{_≡_, sym, ap, ap₂, _∙_, subst}
 use mathlib.Core.List.{List}
-use Prim.Native.Nat.{ℕ, zero, suc, _≤_, _<_}
+use Prim.Native.Nat.{ℕ, zero, suc, _≤_}
 use native.Mathlib.Omega.{arith}
 use lib.ListN.{length}
 use Rattle.lists.specs.Table.{at}
@@ -16,19 +16,19 @@ use Rattle.recurrence.proofs.Register.{Right, register-right}
 use Rattle.recurrence.proofs.Start.{order-last, order-within, start-holds, start-first}
 use Rattle.sequence.specs.declared.Sequence.{Sequence}
 use Rattle.sequence.specs.declared.Outcome.{Outcome}
-use Rattle.sequence.specs.declared.Outcome.the-variants.{Done}
 use Rattle.sequence.specs.declared.Reported.{Reported}
 use Rattle.sequence.specs.declared.Reported.the-variants.{Length, Refused}
 use Rattle.sequence.specs.Limits.{maxModulus, maxCells, aBytes, bBytes}
-use Rattle.sequence.specs.Rules.{openOf, checkOf}
+use Rattle.sequence.specs.Rules.{openOf}
 use Rattle.sequence.specs.Report.{reportOf, filled}
 use Rattle.candidate.specs.Rules.{aCells}
 use Rattle.catalogue.specs.Rules.{lengthCell, recordOf}
 use Rattle.formatting.specs.Listing.{registerLine, recordLine}
 use Rattle.formatting.proofs.Records.{line-shown, line-made}
-use Rattle.guarantees.specs.Calls.{Call, afterAll, taken}
+use Rattle.formatting.proofs.Reading.{numeral-digits, numeral-value, numeral-front}
+use Rattle.guarantees.specs.Calls.{afterAll, taken}
 use Rattle.guarantees.specs.Claims.{termsOf, AgreesWith}
-use Rattle.guarantees.specs.Listing.{OrderAndStart, Ordered, aAfter, EveryOrder, TheListing}
+use Rattle.guarantees.specs.Listing.{Ordered, aAfter, EveryOrder, TheListing, Numerals}
 use Rattle.guarantees.proofs.State.{holding, Good, state, good}
 use Rattle.guarantees.proofs.Demand.{reported, a-written}
 use Rattle.guarantees.proofs.Records.{least, most, agrees, making, outcome}
@@ -99,3 +99,7 @@ the-listing query catalogue out fine made long calls a b h ha hb =
 
     same-start : cellAt (recordOf query) lengthCell ≡ o .start
     same-start = ap told (sym (agree .length-same) ∙ o .reported)
+
+pub numerals : Numerals
+unfolding Numerals
+numerals n = record { digits = numeral-digits n; value = numeral-value n; front = numeral-front n }

@@ -13,9 +13,9 @@ use lib.Seq.{ext-getD, length-take-le, getD-take, getD-append-add, take-take}
 use borrow.Author.Tests.{eq-eqb, lt-ltb, le-ltb}
 use Rattle.lists.specs.Choice.{pick}
 use Rattle.lists.specs.Table.{at, tabulate}
-use Rattle.lists.proofs.Table.{length-tabulate, at-tabulate-all, tabulate-eq}
+use Rattle.lists.proofs.Table.{length-tabulate, at-tabulate-all}
 use Rattle.lists.proofs.Search.{first-passes, lt-or-le}
-use Rattle.cells.specs.Cell.{cellAt, cellsFrom, bytesOf, equal}
+use Rattle.cells.specs.Cell.{cellAt, equal}
 use Rattle.cells.proofs.Laws.{cells-back, equal-eq}
 use Rattle.recurrence.specs.Polynomial.{conv}
 use Rattle.recurrence.specs.Register.{Register, register}

@@ -2,10 +2,12 @@
 -- stands in records.
 -- Assumes nothing.
 use mathlib.Core.Path.{_≡_}
-use mathlib.Core.List.{List, [], _∷_, _++_}
+use mathlib.Core.List.{List, [], _∷_}
+use mathlib.Core.Bool.{true}
 use Prim.Native.Nat.{ℕ, zero, suc, _≤_, _<_}
 use lib.ListN.{length, take}
 use Rattle.lists.specs.Table.{at, tabulate}
+use Rattle.lists.specs.Search.{every}
 use Rattle.lists.specs.Text.{bytes}
 use Rattle.cells.specs.Cell.{cellAt}
 use Rattle.residue.specs.Congruence.{Cong}
@@ -18,6 +20,7 @@ use Rattle.sequence.specs.declared.Reported.the-variants.{Length}
 use Rattle.sequence.specs.Limits.{maxModulus, aBytes, bBytes}
 use Rattle.sequence.specs.Rules.{openOf, checkOf, queryOf}
 use Rattle.sequence.specs.Report.{reportOf, aBuffer, written, filled}
+use Rattle.lines.specs.Form.{isDigit, decimal}
 use Rattle.candidate.specs.Rules.{aCells}
 use Rattle.catalogue.specs.Rules.{recordBytes, recordOf, synthesizeOf, lookUpOf, servedIn}
 use Rattle.formatting.specs.Text.{numeral}
@@ -76,6 +79,15 @@ TheListing =
     (query catalogue out : List ℕ) → checkOf query ≡ Done → MadeCatalogue catalogue → length out ≡ recordBytes → (calls : List Call) (a b : List ℕ)
     → taken (cellAt query 0) calls ≡ termsOf query → length a ≡ aBytes → length b ≡ bBytes
     → Listed query catalogue out (afterAll (openOf (cellAt query 0) .sequence) calls) a b
+
+-- A number is printed in digits, with which a typed line would write it, and with no zero in front of other digits.
+pub record NumeralOf (n : ℕ) (text : List ℕ) : Type 0 where
+  pub digits : every isDigit text ≡ true
+  pub value : decimal text ≡ n
+  pub front : 1 < length text → at text 0 ≡ 48 → ⊥
+
+unfoldable pub Numerals : Type 0
+Numerals = (n : ℕ) → NumeralOf n (numeral n)
 
 -- ---- lines as they are printed
 

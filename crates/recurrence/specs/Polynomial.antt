@@ -29,11 +29,11 @@ unfoldable pub top : List ℕ → ℕ
 top [] = zero
 top (x ∷ xs) = elim (top xs) [ zero ↦ elim x [ zero ↦ zero | suc y ↦ 1 ] | suc n ↦ suc (suc n) ]
 
--- the degree; 0 for a constant and for the zero polynomial
+-- the degree, the last place that is not 0; 0 for a constant and for the zero polynomial
 unfoldable pub degree : List ℕ → ℕ
 degree xs = top xs - 1
 
--- a pair (a, b): of a register, a has the coefficients of the recurrence and b the start
+-- a pair (a, b): of a register, a has the coefficients of the recurrence and b those with which S × a begins
 pub record Pair : Type 0 where
   pub a : List ℕ
   pub b : List ℕ
