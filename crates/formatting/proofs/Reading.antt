@@ -97,7 +97,11 @@ module _ (n : ℕ) where
   in-front zero e h = absurd (omega (arith, h))
   in-front (suc j) e h = lead (suc j) n (needed j e) (subst (λ (x : ℕ). n < 10 ^ suc x) e enough)
 
--- its digits are digits of a typed line, which reads them as the number; no zero stands in front of others
+-- one digit or more, of a typed line, which reads them as the number; no zero stands in front of others
+pub numeral-some : (n : ℕ) → zero < length (numeral n)
+unfolding numeral
+numeral-some n = omega (arith, long (suc (most n)) n)
+
 pub numeral-digits : (n : ℕ) → every isDigit (numeral n) ≡ true
 unfolding numeral
 numeral-digits n = are-digits (suc (most n)) n

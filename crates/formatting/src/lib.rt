@@ -59,7 +59,7 @@ fn put_behind(c: u8, n: u64, out: &mut [u8], k: usize) -> usize
 
 // The order of the register with these cells of a: the degree, the last place that is not 0.
 // Rejected: zeros counted that stand behind it.
-pub fn order(a: &[u8]) -> u32
+fn order(a: &[u8]) -> u32
     requires { ⌜ length (now a) ≡ aBytes ⌝ }
     ensures { λ r. ⌜ r ≡ degree (aCells (now (a .entry))) ⌝ }
 {

@@ -25,7 +25,7 @@ use Rattle.candidate.specs.Rules.{aCells}
 use Rattle.catalogue.specs.Rules.{lengthCell, recordOf}
 use Rattle.formatting.specs.Listing.{registerLine, recordLine}
 use Rattle.formatting.proofs.Records.{line-shown, line-made}
-use Rattle.formatting.proofs.Reading.{numeral-digits, numeral-value, numeral-front}
+use Rattle.formatting.proofs.Reading.{numeral-some, numeral-digits, numeral-value, numeral-front}
 use Rattle.guarantees.specs.Calls.{afterAll, taken}
 use Rattle.guarantees.specs.Claims.{termsOf, AgreesWith}
 use Rattle.guarantees.specs.Listing.{Ordered, aAfter, EveryOrder, TheListing, Numerals}
@@ -56,6 +56,7 @@ module _ (m : ℕ) (low : 2 ≤ m) (high : m ≤ maxModulus) (ts : List ℕ) (g 
         start = x .length;
         reported = reported m low high ts g a b ha hb;
         means = record {
+          one = same 0 ∙ right .one;
           last = order-last m low ts (length ts) x right shown same;
           past = degree-past shown;
           whole = at-tabulate-all (suc (degree shown)) (at shown) (λ i h. degree-past shown i (omega arith));
@@ -102,4 +103,4 @@ the-listing query catalogue out fine made long calls a b h ha hb =
 
 pub numerals : Numerals
 unfolding Numerals
-numerals n = record { digits = numeral-digits n; value = numeral-value n; front = numeral-front n }
+numerals n = record { some = numeral-some n; digits = numeral-digits n; value = numeral-value n; front = numeral-front n }

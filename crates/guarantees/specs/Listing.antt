@@ -28,13 +28,14 @@ use Rattle.formatting.specs.Listing.{registerLine, recordLine, queryLine}
 use Rattle.guarantees.specs.Calls.{Call, afterAll, taken}
 use Rattle.guarantees.specs.Claims.{MadeCatalogue, termsOf}
 
--- The rule with the coefficients a holds from place s of the terms on: for every j from s to the last, S_j + a_1 S_(j-1) + a_2 S_(j-2) + .. is 0
--- modulo m, where there are no terms before S_0.
+-- The rule with the coefficients a holds from place s of the terms on: for every j from s to the last, a_0 S_j + a_1 S_(j-1) + a_2 S_(j-2) + .. is
+-- 0 modulo m, where there are no terms before S_0.
 abbrev pub HoldsFrom : ℕ → List ℕ → List ℕ → ℕ → Type 0
 HoldsFrom m ts a s = (j : ℕ) → s ≤ j → j < length ts → Cong m (conv (at ts) (at a) j) zero
 
 -- The order and the start of the register with coefficients a for the terms ts modulo m.
 pub record OrderAndStart (m : ℕ) (ts a : List ℕ) (order start : ℕ) : Type 0 where
+  pub one : at a 0 ≡ 1
   -- the order is the last place of a that is not 0
   pub last : at a order ≡ zero → ⊥
   pub past : (i : ℕ) → order < i → at a i ≡ zero
@@ -80,8 +81,9 @@ TheListing =
     → taken (cellAt query 0) calls ≡ termsOf query → length a ≡ aBytes → length b ≡ bBytes
     → Listed query catalogue out (afterAll (openOf (cellAt query 0) .sequence) calls) a b
 
--- A number is printed in digits, with which a typed line would write it, and with no zero in front of other digits.
+-- A number is printed in digits, one or more, that a typed line may have for it, with no zero in front of other digits.
 pub record NumeralOf (n : ℕ) (text : List ℕ) : Type 0 where
+  pub some : zero < length text
   pub digits : every isDigit text ≡ true
   pub value : decimal text ≡ n
   pub front : 1 < length text → at text 0 ≡ 48 → ⊥

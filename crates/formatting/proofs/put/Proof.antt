@@ -1,36 +1,28 @@
+-- `formatting::put` meets its contract.
+-- Assumes nothing.
 use borrow.Author.Needs.{needs}
 use Rattle.formatting.proofs.Putting.{put-part}
 use Rattle.formatting.proofs.put.Statement.{statement}
 use Rattle.formatting.proofs.put.Tie as tie
-use Rattle.formatting.proofs.put.Reads as reads
-use Rattle.formatting.proofs.put.Lts as lts
-use Rattle.cells.proofs.copy.Reads as copy-reads
 
--- src/lib.rt:33:15
 add-end : tie.Need-add-end
 add-end c = search needs
 
--- src/lib.rt:34:20
 sub-copy : tie.Need-sub-copy
 sub-copy c = search needs
 
--- src/lib.rt:34:20
 part-copy-start : tie.Need-part-copy-start
 part-copy-start c = search needs
 
--- src/lib.rt:34:20
 part-copy-end : tie.Need-part-copy-end
 part-copy-end c = search needs
 
--- src/lib.rt:34:5
 copy-requires : tie.Need-copy-requires
 copy-requires c κs = search needs
 
--- src/lib.rt:29:1
 same-length : tie.Need-same-length
 same-length c = search needs
 
--- src/lib.rt:29:1
 returns : tie.Need-returns
 returns c =
     let s = c .before .before .before .before .before .before in

@@ -18,18 +18,32 @@ put-behind-requires c κs =
 
 put-behind-requires-2 : tie.Need-put-behind-requires-2
 put-behind-requires-2 c κs =
-    let second = c .before .before .before .put-behind .ensures in
-    let first = c .before .before .before .before .before .before .before .put-number .ensures in
-    omega
-    (arith, first .1, put-size (first .0), second .1, put-size (second .0), c .before .before .before .before .before .before .before .before .before .before .pre)
+    let second = c .before .before .before in
+    let first = second .before .before .before .before in
+    omega (
+      arith,
+      first .put-number .ensures .1,
+      put-size (first .put-number .ensures .0),
+      second .put-behind .ensures .1,
+      put-size (second .put-behind .ensures .0),
+      first .before .before .before .pre,
+    )
 
 put-behind-requires-3 : tie.Need-put-behind-requires-3
 put-behind-requires-3 c κs =
-    let third = c .before .before .before .put-behind2 .ensures in
-    let second = c .before .before .before .before .before .before .before .put-behind .ensures in
-    let s = c .before .before .before .before .before .before .before .before .before .before .before in
-    let first = s .put-number .ensures in
-    omega (arith, first .1, put-size (first .0), second .1, put-size (second .0), third .1, put-size (third .0), s .before .before .before .pre)
+    let third = c .before .before .before in
+    let second = third .before .before .before .before in
+    let first = second .before .before .before .before in
+    omega (
+      arith,
+      first .put-number .ensures .1,
+      put-size (first .put-number .ensures .0),
+      second .put-behind .ensures .1,
+      put-size (second .put-behind .ensures .0),
+      third .put-behind2 .ensures .1,
+      put-size (third .put-behind2 .ensures .0),
+      first .before .before .before .pre,
+    )
 
 same-length : tie.Need-same-length
 same-length c = search needs
@@ -37,12 +51,14 @@ same-length c = search needs
 returns : tie.Need-returns
 unfolding bytes
 returns c =
-    let fourth = c .before .before .put-behind3 .ensures in
-    let third = c .before .before .before .before .before .before .put-behind2 .ensures in
-    let second = c .before .before .before .before .before .before .before .before .before .before .put-behind .ensures in
-    let first = c .before .before .before .before .before .before .before .before .before .before .before .before .before .before .put-number .ensures in (
-      put-as (separated-four (bytes " ") _ _ _ _) (put-more (put-more (put-more (first .0) (second .0)) (third .0)) (fourth .0)),
-      omega (arith, first .1, second .1, third .1, fourth .1),
+    let third = c .before .before .before .before .before .before in
+    let second = third .before .before .before .before in
+    let one = second .before .before .before .before .put-number .ensures in
+    let two = second .put-behind .ensures in
+    let three = third .put-behind2 .ensures in
+    let four = c .before .before .put-behind3 .ensures in (
+      put-as (separated-four (bytes " ") _ _ _ _) (put-more (put-more (put-more (one .0) (two .0)) (three .0)) (four .0)),
+      omega (arith, one .1, two .1, three .1, four .1),
     )
 
 pub put-numbers-spec : {M : Type 1} → statement M

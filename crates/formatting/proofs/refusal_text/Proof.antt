@@ -32,13 +32,14 @@ same-length c = search needs
 returns : tie.Need-returns
 unfolding bytes
 returns c =
-    let word = c .before .before .before .before .before .before .before .before .before .before .before .before .put .ensures in
-    let number = c .before .before .before .before .before .before .before .put-number .ensures in
-    let place = c .before .before .put-place .ensures in
-    let text = put-more (put-more word (number .0)) (place .0) in
-    let p = c .before .before .before .before .place-of in
-    let whole = put-as (refusal-pieces (c .before .before .before .before .before .before .before .before .before .before .before .before .before .before .before .before .args .r) _ (p .result) (c .before .before .before .before .before .before .before .before .before .number .ensures .0) (p .ensures)) text in
-    (put-counts whole, (whole, omega (arith, word .ends, number .1, place .1)))
+    let place = c .before .before in
+    let p = place .before .before in
+    let number = p .before .before .before in
+    let n = number .before .before in
+    let word = n .before .before .before in
+    let text = put-more (put-more (word .put .ensures) (number .put-number .ensures .0)) (place .put-place .ensures .0) in
+    let whole = put-as (refusal-pieces (word .before .before .before .before .args .r) _ (p .place-of .result) (n .number .ensures .0) (p .place-of .ensures)) text in
+    (put-counts whole, (whole, omega (arith, word .put .ensures .ends, number .put-number .ensures .1, place .put-place .ensures .1)))
 
 pub refusal-text-spec : {M : Type 1} → statement M
 refusal-text-spec =

@@ -23,24 +23,47 @@ put-requires c κs = search needs
 
 put-coefficients-requires : tie.Need-put-coefficients-requires
 put-coefficients-requires c κs =
-    let s = c .before .before .before .before .before .before .before .before .before .before .before .before .before in
-    let numbers = c .before .before .before .before .before .before .before .before .put-numbers .ensures in
-    let blank = c .before .before .before .put .ensures in
-    let few = degree-cells (s .args .a .now) in
-    let d = c .before .before .before .before .before .before .before .before .before .before .order .ensures in
-    (s .pre .0, omega (arith, d, few), omega (arith, d, few, numbers .1, blank .ends, put-size (numbers .0), put-size blank, s .pre .1))
+    let blank = c .before .before .before in
+    let numbers = blank .before .before .before .before .before in
+    let order = numbers .before .before in
+    let s = order .before .before .before in
+    let few = degree-cells (s .args .a .now) in (
+      s .pre .0,
+      omega (arith, order .order .ensures, few),
+      omega (
+        arith,
+        order .order .ensures,
+        few,
+        numbers .put-numbers .ensures .1,
+        put-size (numbers .put-numbers .ensures .0),
+        blank .put .ensures .ends,
+        put-size (blank .put .ensures),
+        s .pre .1,
+      ),
+    )
 
 slice-aggregate-put-2 : tie.Need-slice-aggregate-put-2
 slice-aggregate-put-2 c = search needs
 
 put-requires-2 : tie.Need-put-requires-2
 put-requires-2 c κs =
-    let s = c .before .before .before .before .before .before .before .before .before .before .before .before .before .before .before .before .before .before in
-    let numbers = c .before .before .before .before .before .before .before .before .before .before .before .before .before .put-numbers .ensures in
-    let blank = c .before .before .before .before .before .before .before .before .put .ensures in
-    let last = c .before .before .before .before .put-coefficients .ensures in
-    omega
-    (arith, c .before .before .before .before .before .before .before .before .before .before .before .before .before .before .before .order .ensures, degree-cells (s .args .a .now), numbers .1, blank .ends, last .1, put-size (numbers .0), put-size blank, put-size (last .0), s .pre .1)
+    let last = c .before .before .before .before in
+    let blank = last .before .before .before .before in
+    let numbers = blank .before .before .before .before .before in
+    let order = numbers .before .before in
+    let s = order .before .before .before in
+    omega (
+      arith,
+      order .order .ensures,
+      degree-cells (s .args .a .now),
+      numbers .put-numbers .ensures .1,
+      put-size (numbers .put-numbers .ensures .0),
+      blank .put .ensures .ends,
+      put-size (blank .put .ensures),
+      last .put-coefficients .ensures .1,
+      put-size (last .put-coefficients .ensures .0),
+      s .pre .1,
+    )
 
 same-length : tie.Need-same-length
 same-length c = search needs
@@ -48,12 +71,13 @@ same-length c = search needs
 returns : tie.Need-returns
 unfolding bytes
 returns c =
-    let s = c .before .before .before .before .before .before .before .before .before .before .before .before .before .before .before .before .before .before .before .before .before in
-    let numbers = c .before .before .before .before .before .before .before .before .before .before .before .before .before .before .before .before .put-numbers .ensures in
-    let last = c .before .before .before .before .before .before .before .put-coefficients .ensures in
-    let line = put-more (put-more (put-more (numbers .0) (c .before .before .before .before .before .before .before .before .before .before .before .put .ensures)) (last .0)) (c .before .before .put2 .ensures) in
-    let d = c .before .before .before .before .before .before .before .before .before .before .before .before .before .before .before .before .before .before .order .ensures in
-    let whole = register-told (s .args .modulus) (s .args .count) _ _ (s .args .l) (aCells (s .args .a .now)) line d d in
+    let last = c .before .before .before .before .before .before .before in
+    let blank = last .before .before .before .before in
+    let numbers = blank .before .before .before .before .before in
+    let order = numbers .before .before in
+    let v = order .before .before .before .args in
+    let line = put-more (put-more (put-more (numbers .put-numbers .ensures .0) (blank .put .ensures)) (last .put-coefficients .ensures .0)) (c .before .before .put2 .ensures) in
+    let whole = register-told (v .modulus) (v .count) _ _ (v .l) (aCells (v .a .now)) line (order .order .ensures) (order .order .ensures) in
     (put-counts whole, whole)
 
 pub register-line-spec : {M : Type 1} → statement M
