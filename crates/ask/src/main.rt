@@ -2,18 +2,7 @@
 use input::CHUNK;
 use input::LINE_ROOM;
 use input::Taken;
-use sequence::Outcome;
-use sequence::QUERY_BYTES;
 use sequence::Refusal;
-
-fn answer(line: &[u8]) {
-    let mut query = [0u8; QUERY_BYTES];
-    let o = lines::read_line(line, &mut query);
-    match o {
-        Outcome::Refused(r) => printing::refusal_line(r),
-        Outcome::Done => printing::query_line(&query),
-    }
-}
 
 fn main() {
     printing::header_line();
@@ -28,7 +17,7 @@ fn main() {
         source = t.source;
         let taken = t.taken;
         match taken {
-            Taken::Line(n) => answer(&line[..n]),
+            Taken::Line(n) => printing::typed_line(&line[..n]),
             Taken::TooLong => printing::refusal_line(Refusal::Buffer),
             Taken::Ended => return,
         }

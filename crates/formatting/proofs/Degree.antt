@@ -20,8 +20,17 @@ pub record ZeroPast (a : List ℕ) (i : ℕ) : Type 0 where
   pub zeros : (j : ℕ) → i < j → at (aCells a) j ≡ zero
 
 module _ (a : List ℕ) where
+  -- there are 129 cells
+  cells-end : (j : ℕ) → maxCells ≤ j → at (aCells a) j ≡ zero
+  cells-end j h = at-past (aCells a) j (omega (arith, length-tabulate maxCells (λ i. cellAt a (0 + i))))
+
+  pub degree-cells : degree (aCells a) < maxCells
+  degree-cells =
+      let most : degree (aCells a) ≤ maxCells - 1 = degree-most (aCells a) (maxCells - 1) (λ j h. cells-end j (omega arith)) in
+      omega arith
+
   pub past-last : ZeroPast a (maxCells - 1)
-  past-last = record { within = omega arith; zeros = λ j h. at-past (aCells a) j (omega (arith, length-tabulate maxCells (λ i. cellAt a (0 + i)))) }
+  past-last = record { within = omega arith; zeros = λ j h. cells-end j (omega arith) }
 
   pub past-next : {i v : ℕ} → ZeroPast a i → v ≡ cellAt a i → v ≡ zero → zero < i → ZeroPast a (i - 1)
   past-next {i} {v} x read none low =

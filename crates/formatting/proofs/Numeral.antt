@@ -10,11 +10,8 @@ use lib.Dec.{ltb}
 use borrow.Author.Tests.{lt-ltb, le-ltb}
 use Rattle.io.specs.Digits.{digits, Fewest}
 use Rattle.lists.proofs.Search.{is-first}
+use Rattle.residue.proofs.Factors.{below-power}
 use Rattle.formatting.specs.Text.{numeral}
-
-pub below-power : (j : ℕ) → j < 10 ^ j
-below-power zero = omega arith
-below-power (suc j) = omega (arith, below-power j)
 
 pub fewest : (n k : ℕ) → Fewest 10 1 n k → digits 10 k n ≡ numeral n
 unfolding numeral
@@ -25,7 +22,7 @@ fewest n (suc j) f = ap (λ (i : ℕ). digits 10 (suc i) n) (is-first n (λ i. l
     most zero f = omega arith
     most (suc j) f =
         let e : suc (suc j) - 1 ≡ suc j = omega arith in
-        omega (arith, f .2 (omega arith), ap (λ (x : ℕ). 10 ^ x) e, below-power (suc j))
+        omega (arith, f .2 (omega arith), ap (λ (x : ℕ). 10 ^ x) e, below-power 10 (suc j) (omega arith))
 
     before : (i : ℕ) → i < j → ltb n (10 ^ suc i) ≡ false
     before i h =

@@ -14,9 +14,9 @@ use Rattle.io.specs.Digits.{glyph, digits}
 use Rattle.lists.specs.Table.{at}
 use Rattle.lists.specs.Search.{first, every}
 use Rattle.lists.proofs.Search.{every-cons, every-head, every-tail, both-true, first-le, first-passes, first-before}
+use Rattle.residue.proofs.Factors.{below-power}
 use Rattle.lines.specs.Form.{isDigit, decimal}
 use Rattle.formatting.specs.Text.{numeral}
-use Rattle.formatting.proofs.Numeral.{below-power}
 
 -- ---- a digit more at the end
 
@@ -88,7 +88,7 @@ module _ (n : ℕ) where
       go (no h) =
           let e : most ≡ n = omega (arith, first-le n (λ k. ltb n (10 ^ suc k))) in
           let p : 10 ^ suc most ≡ 10 ^ suc n = ap (λ (x : ℕ). 10 ^ suc x) e in
-          omega (arith, p, below-power (suc n))
+          omega (arith, p, below-power 10 (suc n) (omega arith))
 
   needed : (j : ℕ) → most ≡ suc j → 10 ^ suc j ≤ n
   needed j e = ltb-false n (10 ^ suc j) (first-before n (λ k. ltb n (10 ^ suc k)) j (omega (arith, e)))

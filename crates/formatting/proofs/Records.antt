@@ -6,6 +6,7 @@ use Prim.Native.Nat.{ℕ, _+_, _*_, _<_}
 use native.Mathlib.Omega.{arith}
 use lib.ListN.{length, take, drop}
 use lib.Seq.{getD-take}
+use borrow.Author.Tests.{eq-eqb}
 use Rattle.lists.specs.Table.{at}
 use Rattle.lists.proofs.Table.{at-tabulate-all}
 use Rattle.cells.specs.Cell.{cellAt}
@@ -17,13 +18,15 @@ use Rattle.sequence.specs.declared.Outcome.{Outcome}
 use Rattle.sequence.specs.declared.Outcome.the-variants.{Done, Refused}
 use Rattle.sequence.specs.Limits.{queryBytes, aBytes, maxCells}
 use Rattle.sequence.specs.Rules.{sequenceOf, checkOf, IsSound}
-use Rattle.sequence.specs.Report.{registerOf, aBuffer}
+use Rattle.sequence.specs.Report.{registerOf, aBuffer, filled}
 use Rattle.sequence.proofs.Laws.{check-done}
+use Rattle.lines.specs.Reading.{foundIn}
+use Rattle.lines.specs.Reply.{replyOf, readOf, queryIn}
 use Rattle.candidate.specs.Rules.{aCells}
 use Rattle.catalogue.specs.Rules.{recordBytes, aPlace, lengthCell, recordOf, synthesizeOf}
 use Rattle.catalogue.proofs.Refusals.{synthesize-query}
 use Rattle.catalogue.proofs.Places.{layout-query, layout-a, layout-length-cell}
-use Rattle.formatting.specs.Listing.{registerLine, recordLine, refusalLine, lineOf, queryLine}
+use Rattle.formatting.specs.Listing.{registerLine, recordLine, refusalLine, lineOf, queryLine, answerLine, typedLine}
 use Rattle.formatting.proofs.Wording.{line-same}
 
 module _ (s : Sequence) (sound : IsSound s) where
@@ -76,5 +79,23 @@ module _ (query out : List ℕ) (size : length out ≡ recordBytes) where
   unfolding queryLine
   query-refused h = sym (ap (λ (o : Outcome). lineOf o (sequenceOf query)) (sym (synthesize-query query out size) ∙ h))
 
-  pub query-made : synthesizeOf query out ≡ Done → recordLine (recordOf query) ≡ queryLine query
-  query-made h = line-made query (sym (synthesize-query query out size) ∙ h)
+  pub query-made : (entry : List ℕ) {o : Outcome} → entry ≡ filled o (recordOf query) out → o ≡ synthesizeOf query out → o ≡ Done → recordLine entry ≡ queryLine query
+  query-made entry {o} e f d =
+      ap recordLine (e ∙ ap (λ (x : Outcome). filled x (recordOf query) out) d) ∙ line-made query (sym (synthesize-query query out size) ∙ sym f ∙ d)
+
+-- ---- a typed line, read into a query buffer
+
+module _ (line lent : List ℕ) (size : length lent ≡ queryBytes) where
+  replied : readOf line lent ≡ replyOf (foundIn line)
+  unfolding readOf
+  replied = rw (eq-eqb (length lent) queryBytes size)
+
+  pub typed-refused : {r : Refusal} → readOf line lent ≡ Refused r → refusalLine r ≡ typedLine line
+  unfolding typedLine
+  typed-refused h = sym (ap (λ (o : Outcome). answerLine o (foundIn line)) (sym replied ∙ h))
+
+  pub typed-read : (query : List ℕ) {o : Outcome} → query ≡ filled o (queryIn (foundIn line)) lent → o ≡ readOf line lent → o ≡ Done → queryLine query ≡ typedLine line
+  unfolding typedLine
+  typed-read query {o} e f d =
+      ap queryLine (e ∙ ap (λ (x : Outcome). filled x (queryIn (foundIn line)) lent) d)
+      ∙ sym (ap (λ (x : Outcome). answerLine x (foundIn line)) (sym replied ∙ sym f ∙ d))

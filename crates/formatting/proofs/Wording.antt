@@ -1,29 +1,19 @@
--- Laws of the listing's lines: the pieces of each, their room, and what a line depends on.
+-- Laws of the listing's lines: the pieces of each, and what a line depends on.
 -- Assumes nothing.
 use mathlib.Core.Path.{_≡_, refl, ap₂}
 use mathlib.Core.List.{List, [], _∷_, _++_}
-use Prim.Native.Nat.{ℕ, suc, _+_, _≤_, _<_}
-use native.Mathlib.Omega.{arith}
+use Prim.Native.Nat.{ℕ, suc}
 use Rattle.lists.specs.Table.{at, tabulate}
 use Rattle.lists.specs.Text.{bytes}
-use Rattle.lists.proofs.Table.{at-past, length-tabulate, tabulate-eq}
-use Rattle.cells.specs.Cell.{cellAt}
+use Rattle.lists.proofs.Table.{tabulate-eq}
 use Rattle.recurrence.specs.Polynomial.{degree}
-use Rattle.recurrence.proofs.Polynomial.{degree-most, degree-same}
+use Rattle.recurrence.proofs.Polynomial.{degree-same}
 use Rattle.sequence.specs.declared.Refusal.{Refusal}
 use Rattle.sequence.specs.declared.Place.{Place}
-use Rattle.sequence.specs.Limits.{maxCells}
 use Rattle.sequence.specs.Answers.{refusal, placed}
-use Rattle.candidate.specs.Rules.{aCells}
 use Rattle.formatting.specs.Text.{numeral, separated, Put}
 use Rattle.formatting.specs.Listing.{registerLine, placeText, refusalText}
 use Rattle.formatting.proofs.Putting.{put-as}
-
--- there are 129 cells
-pub degree-cells : (a : List ℕ) → degree (aCells a) < maxCells
-degree-cells a =
-    let most : degree (aCells a) ≤ 128 = degree-most (aCells a) 128 (λ i h. at-past (aCells a) i (omega (arith, length-tabulate maxCells (λ j. cellAt a (0 + j))))) in
-    omega arith
 
 -- the number that stands as the order is the degree, and so is the last place that is printed
 pub register-told : {out out′ : List ℕ} {k r : ℕ} (m n order d l : ℕ) (a : List ℕ)

@@ -11,10 +11,14 @@ use Rattle.sequence.specs.declared.Sequence.{Sequence}
 use Rattle.sequence.specs.declared.Refusal.{Refusal}
 use Rattle.sequence.specs.declared.Outcome.{Outcome}
 use Rattle.sequence.specs.declared.Outcome.the-variants as O
+use Rattle.sequence.specs.declared.Reported.{Reported}
+use Rattle.sequence.specs.declared.Reported.the-variants as P
 use Rattle.sequence.specs.Limits.{aBytes}
 use Rattle.sequence.specs.Answers.{refusal}
 use Rattle.sequence.specs.Rules.{sequenceOf, checkOf}
 use Rattle.sequence.specs.Report.{registerOf}
+use Rattle.lines.specs.Reading.{Found, foundIn}
+use Rattle.lines.specs.Reply.{replyOf, queryIn}
 use Rattle.candidate.specs.Rules.{aCells}
 use Rattle.catalogue.specs.Rules.{aPlace, lengthCell}
 use Rattle.formatting.specs.Text.{numeral, separated}
@@ -57,3 +61,16 @@ lineOf (O.Refused r) s = refusalLine r
 
 unfoldable pub queryLine : List ℕ → List ℕ
 queryLine query = lineOf (checkOf query) (sequenceOf query)
+
+-- the line of a register that is reported for a sequence: by the length replied and the cells of a
+abbrev pub reportedLine : Sequence → Reported → List ℕ → List ℕ
+reportedLine s (P.Length l) a = registerLine (s .modulus) (s .count) l (aCells a)
+reportedLine s (P.Refused r) a = refusalLine r
+
+-- the line that answers a typed line: its refusal, or the line of the query that it becomes
+abbrev pub answerLine : Outcome → Found → List ℕ
+answerLine O.Done found = queryLine (queryIn found)
+answerLine (O.Refused r) found = refusalLine r
+
+unfoldable pub typedLine : List ℕ → List ℕ
+typedLine line = answerLine (replyOf (foundIn line)) (foundIn line)

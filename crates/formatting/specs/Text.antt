@@ -13,14 +13,14 @@ unfoldable pub numeral : ℕ → List ℕ
 numeral n = digits 10 (suc (first n (λ k. ltb n (10 ^ suc k)))) n
 
 -- numbers, each behind the mark
-unfoldable pub behind : List ℕ → List ℕ → List ℕ
-behind mark [] = []
-behind mark (x ∷ xs) = mark ++ numeral x ++ behind mark xs
+unfoldable pub eachAfter : List ℕ → List ℕ → List ℕ
+eachAfter mark [] = []
+eachAfter mark (x ∷ xs) = mark ++ numeral x ++ eachAfter mark xs
 
 -- numbers with the mark between them
 unfoldable pub separated : List ℕ → List ℕ → List ℕ
 separated mark [] = []
-separated mark (x ∷ xs) = numeral x ++ behind mark xs
+separated mark (x ∷ xs) = numeral x ++ eachAfter mark xs
 
 -- a text was put into a buffer from place k on: it ends before place r, and all around it is as it was
 pub record Put (out : List ℕ) (k : ℕ) (text out′ : List ℕ) (r : ℕ) : Type 0 where

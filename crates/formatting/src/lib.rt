@@ -5,7 +5,10 @@ use catalogue::LENGTH_CELL;
 use catalogue::RECORD_BYTES;
 use sequence::Outcome;
 use sequence::Place;
+use sequence::QUERY_BYTES;
 use sequence::Refusal;
+use sequence::Reported;
+use sequence::Sequence;
 use steps::CELLS;
 ghost use mathlib.Core.Path.{_≡_};
 ghost use mathlib.Core.List.{[], _∷_};
@@ -19,8 +22,8 @@ ghost use Rattle.sequence.specs.Limits.{maxCells, aBytes};
 ghost use Rattle.sequence.specs.Answers.{placed};
 ghost use Rattle.candidate.specs.Rules.{aCells};
 ghost use Rattle.catalogue.specs.Rules.{recordBytes};
-ghost use Rattle.formatting.specs.Text.{numeral, behind, separated, Put};
-ghost use Rattle.formatting.specs.Listing.{lineBytes, header, registerLine, recordLine, placeText, refusalText, refusalLine, queryLine};
+ghost use Rattle.formatting.specs.Text.{numeral, eachAfter, separated, Put};
+ghost use Rattle.formatting.specs.Listing.{lineBytes, header, registerLine, recordLine, placeText, refusalText, refusalLine, queryLine, reportedLine, typedLine};
 
 // Room for the longest line: four numbers and the coefficients, each with at most 20 digits and a byte beside them.
 pub const LINE_BYTES: usize = 21 * (4 + CELLS);
@@ -49,7 +52,7 @@ fn put_number(n: u64, out: &mut [u8], k: usize) -> usize
 // A number behind a byte.
 fn put_behind(c: u8, n: u64, out: &mut [u8], k: usize) -> usize
     requires { ⌜ k + 21 ≤ length (now out) ⌝ }
-    ensures { λ r. ⌜ Put (now (out .entry)) k (behind (c ∷ []) (n ∷ [])) (now (out .exit)) r ⌝ }
+    ensures { λ r. ⌜ Put (now (out .entry)) k (eachAfter (c ∷ []) (n ∷ [])) (now (out .exit)) r ⌝ }
     ensures { λ r. ⌜ r ≤ k + 21 ⌝ }
 {
     let mark = [c];
@@ -84,7 +87,7 @@ fn coefficient(a: &[u8], i: usize) -> u64
 // a_1 .. a_d, each behind a comma.
 fn put_rest(a: &[u8], d: u32, out: &mut [u8], k: usize) -> usize
     requires { ⌜ (length (now a) ≡ aBytes) × (d < maxCells) × (k + 21 * d ≤ length (now out)) ⌝ }
-    ensures { λ r. ⌜ Put (now (out .entry)) k (behind (bytes ",") (tabulate d (λ i. at (aCells (now (a .entry))) (suc i)))) (now (out .exit)) r ⌝ }
+    ensures { λ r. ⌜ Put (now (out .entry)) k (eachAfter (bytes ",") (tabulate d (λ i. at (aCells (now (a .entry))) (suc i)))) (now (out .exit)) r ⌝ }
     ensures { λ r. ⌜ r ≤ k + 21 * d ⌝ }
 {
     let mut end = k;
@@ -129,7 +132,7 @@ pub fn header_line(out: &mut [u8]) -> usize
 
 // The listing's line of a register of length l with the cells of a: modulus, count, order, start, and a_0 up to the order.
 // Rejected: the length as the order; a coefficient too few.
-pub fn register_line(modulus: u32, count: u32, l: u32, a: &[u8], out: &mut [u8]) -> usize
+fn register_line(modulus: u32, count: u32, l: u32, a: &[u8], out: &mut [u8]) -> usize
     requires { ⌜ (length (now a) ≡ aBytes) × (length (now out) ≡ lineBytes) ⌝ }
     ensures { λ r. ⌜ Counts r (now (out .exit)) ⌝ }
     ensures { λ r. ⌜ Put (now (out .entry)) 0 (registerLine modulus count l (aCells (now (a .entry)))) (now (out .exit)) r ⌝ }
@@ -190,6 +193,7 @@ fn record_line(entry: &[u8], out: &mut [u8]) -> usize
 }
 
 // The listing's line of a query, or its refusal.
+// Rejected: a refused query with a line of numbers; another cell of the record as the start.
 pub fn query_line(query: &[u8], out: &mut [u8]) -> usize
     requires { ⌜ length (now out) ≡ lineBytes ⌝ }
     ensures { λ r. ⌜ Counts r (now (out .exit)) ⌝ }
@@ -200,5 +204,33 @@ pub fn query_line(query: &[u8], out: &mut [u8]) -> usize
     match o {
         Outcome::Refused(r) => refusal_line(r, out),
         Outcome::Done => record_line(&entry, out),
+    }
+}
+
+// The listing's line of a register that is reported for a sequence, or its refusal.
+// Rejected: the count as the start; the cells of b.
+pub fn reported_line(s: Sequence, r: Reported, a: &[u8], out: &mut [u8]) -> usize
+    requires { ⌜ (length (now a) ≡ aBytes) × (length (now out) ≡ lineBytes) ⌝ }
+    ensures { λ n. ⌜ Counts n (now (out .exit)) ⌝ }
+    ensures { λ n. ⌜ Put (now (out .entry)) 0 (reportedLine s r (now (a .entry))) (now (out .exit)) n ⌝ }
+{
+    match r {
+        Reported::Refused(why) => refusal_line(why, out),
+        Reported::Length(l) => register_line(s.modulus, s.count, l, a, out),
+    }
+}
+
+// The line that answers a typed line.
+// Rejected: a refused line answered as a query; the query of another line.
+pub fn typed_line(line: &[u8], out: &mut [u8]) -> usize
+    requires { ⌜ length (now out) ≡ lineBytes ⌝ }
+    ensures { λ r. ⌜ Counts r (now (out .exit)) ⌝ }
+    ensures { λ r. ⌜ Put (now (out .entry)) 0 (typedLine (now (line .entry))) (now (out .exit)) r ⌝ }
+{
+    let mut query = [0u8; QUERY_BYTES];
+    let o = lines::read_line(line, &mut query);
+    match o {
+        Outcome::Refused(r) => refusal_line(r, out),
+        Outcome::Done => query_line(&query, out),
     }
 }

@@ -8,7 +8,6 @@ use lib.ListN.{length}
 use Rattle.lists.specs.Table.{at}
 use Rattle.lists.proofs.Table.{at-tabulate-all}
 use Rattle.cells.specs.Cell.{cellAt}
-use Rattle.cells.proofs.Laws.{cells-back}
 use Rattle.recurrence.specs.Polynomial.{degree}
 use Rattle.recurrence.specs.Register as T
 use Rattle.recurrence.proofs.Polynomial.{degree-past}
@@ -19,19 +18,19 @@ use Rattle.sequence.specs.declared.Outcome.{Outcome}
 use Rattle.sequence.specs.declared.Reported.{Reported}
 use Rattle.sequence.specs.declared.Reported.the-variants.{Length, Refused}
 use Rattle.sequence.specs.Limits.{maxModulus, maxCells, aBytes, bBytes}
-use Rattle.sequence.specs.Rules.{openOf}
-use Rattle.sequence.specs.Report.{reportOf, filled}
+use Rattle.sequence.specs.Rules.{openOf, sequenceOf}
+use Rattle.sequence.specs.Report.{aBuffer, reportOf, written, filled}
 use Rattle.candidate.specs.Rules.{aCells}
 use Rattle.catalogue.specs.Rules.{lengthCell, recordOf}
-use Rattle.formatting.specs.Listing.{registerLine, recordLine}
-use Rattle.formatting.proofs.Records.{line-shown, line-made}
+use Rattle.formatting.specs.Listing.{registerLine, recordLine, queryLine, reportedLine}
+use Rattle.formatting.proofs.Records.{a-back, line-shown, line-made}
 use Rattle.formatting.proofs.Reading.{numeral-some, numeral-digits, numeral-value, numeral-front}
 use Rattle.guarantees.specs.Calls.{afterAll, taken}
 use Rattle.guarantees.specs.Claims.{termsOf, AgreesWith}
 use Rattle.guarantees.specs.Listing.{Ordered, aAfter, EveryOrder, TheListing, Numerals}
-use Rattle.guarantees.proofs.State.{holding, Good, state, good}
-use Rattle.guarantees.proofs.Demand.{reported, a-written}
-use Rattle.guarantees.proofs.Records.{least, most, agrees, making, outcome}
+use Rattle.guarantees.proofs.State.{holding, holding-sound, Good, state, good}
+use Rattle.guarantees.proofs.Demand.{reported, same-register}
+use Rattle.guarantees.proofs.Records.{held, least, most, agrees, making, outcome}
 
 module _ (m : ℕ) (low : 2 ≤ m) (high : m ≤ maxModulus) (ts : List ℕ) (g : Good m ts) (a b : List ℕ) (ha : length a ≡ aBytes) (hb : length b ≡ bBytes) where
   abbrev x : T.Register
@@ -46,9 +45,9 @@ module _ (m : ℕ) (low : 2 ≤ m) (high : m ≤ maxModulus) (ts : List ℕ) (g 
   -- the cells of a are the register's coefficients
   same : (i : ℕ) → at shown i ≡ at (x .a) i
   same i =
-      ap (λ (y : List ℕ). at (aCells y) i) (a-written m low high ts g a b ha hb)
-      ∙ ap (λ (y : List ℕ). at y i) (cells-back maxCells (at (x .a)) (λ j h. omega (arith, right .small-a j)))
-      ∙ at-tabulate-all maxCells (at (x .a)) (λ j h. right .past-a j (omega (arith, right .short, g .size))) i
+      ap (λ (r : Reported). at (aCells (written r (aBuffer (holding m ts)) a)) i) (reported m low high ts g a b ha hb)
+      ∙ a-back (holding m ts) (holding-sound m low high ts g) i
+      ∙ ap (λ (y : T.Register). at (y .a) i) (same-register m low high ts g)
 
   pub ordered : Ordered m ts (reportOf (holding m ts) a b) (aAfter (holding m ts) a b)
   ordered =
@@ -78,13 +77,14 @@ told (Length l) = l
 told (Refused r) = zero
 
 pub the-listing : TheListing
-unfolding TheListing EveryOrder told
+unfolding TheListing EveryOrder told sequenceOf
 the-listing query catalogue out fine made long calls a b h ha hb =
     record {
       ordered = o;
-      line =
-          sym (line-shown query fine)
-          ∙ ap₂ (λ (l : ℕ) (y : List ℕ). registerLine (cellAt query 0) (cellAt query 1) l (aCells y)) same-start (sym (agree .a-same));
+      line = shows;
+      reported =
+          shows
+          ∙ sym (ap₂ (λ (t : Sequence) (r : Reported). reportedLine t r (aAfter s a b)) reached (o .reported));
       made = sym (ap (λ (t : Outcome). recordLine (filled t (recordOf query) out)) (making query out fine long) ∙ line-made query fine);
       served = sym (ap recordLine (outcome query catalogue out fine made long .1) ∙ line-made query fine);
     }
@@ -100,6 +100,14 @@ the-listing query catalogue out fine made long calls a b h ha hb =
 
     same-start : cellAt (recordOf query) lengthCell ≡ o .start
     same-start = ap told (sym (agree .length-same) ∙ o .reported)
+
+    shows : queryLine query ≡ registerLine (cellAt query 0) (cellAt query 1) (o .start) (aCells (aAfter s a b))
+    shows =
+        sym (line-shown query fine)
+        ∙ ap₂ (λ (l : ℕ) (y : List ℕ). registerLine (cellAt query 0) (cellAt query 1) l (aCells y)) same-start (sym (agree .a-same))
+
+    reached : s ≡ sequenceOf query
+    reached = state (cellAt query 0) (least query fine) (most query fine) calls ∙ ap (holding (cellAt query 0)) h ∙ held query fine
 
 pub numerals : Numerals
 unfolding Numerals

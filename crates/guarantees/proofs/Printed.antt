@@ -14,14 +14,16 @@ use Rattle.recurrence.specs.Polynomial.{conv, plus, times, up, top, degree, len
 use Rattle.recurrence.specs.Steps.{discrepancy, caseOf, partner, multiplier, change, remembered, older, noOlder, next, history, rowAt}
 use Rattle.recurrence.specs.Register.{part, parts, register}
 use Rattle.sequence.specs.Rules.{faultOf, sequenceOf, checkOf}
-use Rattle.formatting.specs.Text.{numeral, behind, separated}
-use Rattle.formatting.specs.Listing.{registerLine, refusalText, queryLine}
+use Rattle.lines.specs.Reading.{readFrom}
+use Rattle.formatting.specs.Text.{numeral, eachAfter, separated}
+use Rattle.formatting.specs.Listing.{registerLine, refusalText, queryLine, typedLine}
 use Rattle.guarantees.specs.Listing.{Printed}
 
 pub printed : Printed
-unfolding tabulate largest first all every bytesOf bytes neg inverse valuation cofactor leastDivisor leastPower powersUpTo primePowers joined conv plus times up top degree len discrepancy caseOf partner multiplier change remembered older noOlder next history rowAt part parts register faultOf sequenceOf checkOf numeral behind separated registerLine refusalText queryLine
+unfolding tabulate largest first all every bytesOf bytes neg inverse valuation cofactor leastDivisor leastPower powersUpTo primePowers joined conv plus times up top degree len discrepancy caseOf partner multiplier change remembered older noOlder next history rowAt part parts register faultOf sequenceOf checkOf numeral eachAfter separated registerLine refusalText queryLine readFrom typedLine
 printed =
     record {
+      first-line = refl;
       sample = refl;
       order-zero = refl;
       order-between = refl;
@@ -32,6 +34,10 @@ printed =
       refused = refl;
       refused-at = refl;
       cut-short = refl;
+      typed = refl;
+      typed-27 = refl;
+      typed-28 = refl;
+      typed-1 = refl;
       number-zero = refl;
       number-ten = refl;
       number-largest = refl;

@@ -89,7 +89,7 @@ module _ (query : List ℕ) (fine : checkOf query ≡ Done) where
           (getD-append-add (termsOf query) (replicate (maxTerms - length (termsOf query)) 0) d 0 ∙ getD-replicate (maxTerms - length (termsOf query)) d 0 0 (omega (arith, total)))
           ∙ sym (sound .zeros i (omega (arith, terms-long)) (omega (arith, total)))
 
-  held : holding (cellAt query 0) (termsOf query) ≡ sequenceOf query
+  pub held : holding (cellAt query 0) (termsOf query) ≡ sequenceOf query
   unfolding sequenceOf
   held = λ i. record { modulus = cellAt query 0; count = terms-long i; terms = terms-padded i }
 

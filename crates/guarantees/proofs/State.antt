@@ -51,7 +51,7 @@ front [] ys = refl
 front (x ∷ xs) ys = ap (λ (l : List ℕ). x ∷ l) (front xs ys)
 
 module _ (m : ℕ) (least : 2 ≤ m) (most : m ≤ maxModulus) where
-  holding-sound : (ts : List ℕ) → Good m ts → IsSound (holding m ts)
+  pub holding-sound : (ts : List ℕ) → Good m ts → IsSound (holding m ts)
   holding-sound ts g =
       record {
         least = least;

@@ -24,7 +24,7 @@ use Rattle.lines.specs.Form.{isDigit, decimal}
 use Rattle.candidate.specs.Rules.{aCells}
 use Rattle.catalogue.specs.Rules.{recordBytes, recordOf, synthesizeOf, lookUpOf, servedIn}
 use Rattle.formatting.specs.Text.{numeral}
-use Rattle.formatting.specs.Listing.{registerLine, recordLine, queryLine}
+use Rattle.formatting.specs.Listing.{header, registerLine, recordLine, queryLine, reportedLine, typedLine}
 use Rattle.guarantees.specs.Calls.{Call, afterAll, taken}
 use Rattle.guarantees.specs.Claims.{MadeCatalogue, termsOf}
 
@@ -67,9 +67,10 @@ EveryOrder =
 
 -- The line of a query, with a register after calls that take its terms, lent buffers a and b, and its record made and served.
 pub record Listed (query catalogue out : List ℕ) (s : Sequence) (a b : List ℕ) : Type 0 where
-  -- it shows the length that is replied as the start, and of the coefficients that are written those up to the order
+  -- it is the line of what is reported: the length replied as the start, and of the coefficients that are written those up to the order
   pub ordered : Ordered (cellAt query 0) (termsOf query) (reportOf s a b) (aAfter s a b)
   pub line : queryLine query ≡ registerLine (cellAt query 0) (cellAt query 1) (ordered .start) (aCells (aAfter s a b))
+  pub reported : queryLine query ≡ reportedLine s (reportOf s a b) (aAfter s a b)
   -- it is the line of the record made, and of the record served
   pub made : queryLine query ≡ recordLine (filled (synthesizeOf query out) (recordOf query) out)
   pub served : queryLine query ≡ recordLine (servedIn (lookUpOf query catalogue out) query catalogue out)
@@ -98,6 +99,7 @@ abbrev pub lineFor : ℕ → List ℕ → List ℕ
 lineFor m ts = queryLine (queryOf m ts)
 
 pub record Printed : Type 0 where
+  pub first-line : header ≡ bytes "modulus count order start register\n"
   pub sample : lineFor 9 (6 ∷ 3 ∷ 1 ∷ 5 ∷ 6 ∷ []) ≡ bytes "9 5 3 3 1,4,7,1\n"
   -- 02's example, where the order is 0 and the start 2
   pub order-zero : lineFor 4 (2 ∷ 1 ∷ []) ≡ bytes "4 2 0 2 1\n"
@@ -110,6 +112,10 @@ pub record Printed : Type 0 where
   pub refused : lineFor 1 [] ≡ bytes "refused 1\n"
   pub refused-at : lineFor 9 (6 ∷ 3 ∷ 1 ∷ 5 ∷ 6 ∷ 6 ∷ 3 ∷ 9 ∷ 8 ∷ 10 ∷ 9 ∷ []) ≡ bytes "refused 3 at 7\n"
   pub cut-short : queryLine (take 100 (queryOf 9 (6 ∷ 3 ∷ []))) ≡ bytes "refused 5\n"
+  pub typed : typedLine (bytes "mod 4: -2,5") ≡ bytes "4 2 0 2 1\n"
+  pub typed-27 : typedLine (bytes "mod 9:x") ≡ bytes "refused 27 at 6\n"
+  pub typed-28 : typedLine (bytes "mod 9:2147483648x") ≡ bytes "refused 28 at 15\n"
+  pub typed-1 : typedLine (bytes "mod 1:") ≡ bytes "refused 1\n"
   pub number-zero : numeral 0 ≡ bytes "0"
   pub number-ten : numeral 10 ≡ bytes "10"
   pub number-largest : numeral 4095 ≡ bytes "4095"

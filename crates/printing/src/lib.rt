@@ -2,6 +2,8 @@
 use formatting::LINE_BYTES;
 use libc::STDOUT_FILENO;
 use sequence::Refusal;
+use sequence::Reported;
+use sequence::Sequence;
 ghost use mathlib.Core.Path.{_≡_};
 ghost use lib.ListN.{length};
 ghost use Rattle.sequence.specs.Limits.{aBytes};
@@ -40,12 +42,12 @@ pub fn header_line() {
     text(&out[..n]);
 }
 
-// The listing's line of a register of length l with the cells of a.
-pub fn register_line(modulus: u32, count: u32, l: u32, a: &[u8])
+// The listing's line of a register that is reported for a sequence, or its refusal line.
+pub fn reported_line(s: Sequence, r: Reported, a: &[u8])
     requires { ⌜ length (now a) ≡ aBytes ⌝ }
 {
     let mut out = [0u8; LINE_BYTES];
-    let n = formatting::register_line(modulus, count, l, a, &mut out);
+    let n = formatting::reported_line(s, r, a, &mut out);
     text(&out[..n]);
 }
 
@@ -53,5 +55,12 @@ pub fn register_line(modulus: u32, count: u32, l: u32, a: &[u8])
 pub fn query_line(query: &[u8]) {
     let mut out = [0u8; LINE_BYTES];
     let n = formatting::query_line(query, &mut out);
+    text(&out[..n]);
+}
+
+// The line that answers a typed line.
+pub fn typed_line(line: &[u8]) {
+    let mut out = [0u8; LINE_BYTES];
+    let n = formatting::typed_line(line, &mut out);
     text(&out[..n]);
 }

@@ -78,7 +78,7 @@ least-divisor-prime m p x = record { big = x .big; bare = λ d lo hi z. x .none 
 
 -- ---- its power in m
 
-below-power : (p n : ℕ) → 1 < p → n < p ^ n
+pub below-power : (p n : ℕ) → 1 < p → n < p ^ n
 below-power p zero h = omega (arith, pow-zero p)
 below-power p (suc n) h =
     let ih : n < p ^ n = below-power p n h in

@@ -51,12 +51,10 @@ fn show(s: Sequence) {
     let mut log = [0u64; LOG];
     let w = sequence::work(s, &mut a, &mut b, LOG, &mut log);
     let reply = w.reply;
+    printing::reported_line(s, reply, &a);
     match reply {
-        Reported::Refused(r) => printing::refusal_line(r),
-        Reported::Length(l) => {
-            printing::register_line(s.modulus, s.count, l, &a);
-            table(&log, w.count);
-        }
+        Reported::Refused(_) => {}
+        Reported::Length(_) => table(&log, w.count),
     }
 }
 

@@ -34,14 +34,14 @@ next-line-requires c κs = search needs
 enum-known-taken : tie.Need-enum-known-taken Inv-loop μ-loop
 enum-known-taken c = search needs
 
-slice-reshare-prefix-answer : tie.Need-slice-reshare-prefix-answer Inv-loop μ-loop
-slice-reshare-prefix-answer c = line-within _ _ (c .before .taken .given .1) (c .before .before .before .before .before .before .before .before .next-line .ensures .1 .1)
+slice-reshare-prefix-typed-line : tie.Need-slice-reshare-prefix-typed-line Inv-loop μ-loop
+slice-reshare-prefix-typed-line c = line-within _ _ (c .before .taken .given .1) (c .before .before .before .before .before .before .before .before .next-line .ensures .1 .1)
 
-slice-aggregate-answer : tie.Need-slice-aggregate-answer Inv-loop μ-loop
-slice-aggregate-answer c = sym (length-take-le _ _ (line-within _ _ (c .before .before .taken .given .1) (c .before .before .before .before .before .before .before .before .before .next-line .ensures .1 .1)))
+slice-aggregate-typed-line : tie.Need-slice-aggregate-typed-line Inv-loop μ-loop
+slice-aggregate-typed-line c = sym (length-take-le _ _ (line-within _ _ (c .before .before .taken .given .1) (c .before .before .before .before .before .before .before .before .before .next-line .ensures .1 .1)))
 
-answer-requires : tie.Need-answer-requires Inv-loop μ-loop
-answer-requires c κs = search needs
+typed-line-requires : tie.Need-typed-line-requires Inv-loop μ-loop
+typed-line-requires c κs = search needs
 
 enum-told : tie.Need-enum-told Inv-loop μ-loop
 enum-told c = search needs
@@ -80,9 +80,9 @@ main-spec =
     loop-holds
     next-line-requires
     enum-known-taken
-    slice-reshare-prefix-answer
-    slice-aggregate-answer
-    answer-requires
+    slice-reshare-prefix-typed-line
+    slice-aggregate-typed-line
+    typed-line-requires
     enum-told
     refusal-line-requires
     enum-told-2

@@ -3,7 +3,7 @@
 use native.Mathlib.Omega.{arith}
 use borrow.Author.Needs.{needs}
 use Rattle.formatting.proofs.Putting.{put-more, put-as}
-use Rattle.formatting.proofs.Separated.{behind-one}
+use Rattle.formatting.proofs.Separated.{after-one}
 use Rattle.formatting.proofs.put_behind.Statement.{statement}
 use Rattle.formatting.proofs.put_behind.Tie as tie
 
@@ -23,7 +23,7 @@ returns : tie.Need-returns
 returns c =
     let mark = c .before .before .before .before .before .before .put .ensures in
     let number = c .before .before .put-number .ensures in
-    (put-as (behind-one _ _) (put-more mark (number .0)), omega (arith, mark .ends, number .1))
+    (put-as (after-one _ _) (put-more mark (number .0)), omega (arith, mark .ends, number .1))
 
 pub put-behind-spec : {M : Type 1} → statement M
 put-behind-spec =

@@ -1,11 +1,7 @@
 -- `formatting::query_line` meets its contract.
 -- Assumes nothing.
-use mathlib.Core.Path.{refl, sym, ap, _∙_}
+use mathlib.Core.Path.{refl, sym, _∙_}
 use borrow.Author.Needs.{needs}
-use Rattle.sequence.specs.declared.Outcome.{Outcome}
-use Rattle.sequence.specs.Report.{filled}
-use Rattle.catalogue.specs.Rules.{recordOf}
-use Rattle.formatting.specs.Listing.{recordLine}
 use Rattle.formatting.proofs.Putting.{put-as}
 use Rattle.formatting.proofs.Records.{query-refused, query-made}
 use Rattle.formatting.proofs.query_line.Statement.{statement}
@@ -47,12 +43,9 @@ same-length-2 c = search needs
 
 returns-2 : tie.Need-returns-2
 returns-2 c =
-    let s = c .before .before .before .before .before .before .before .before .before .before .before .before in
-    let line = c .before .before .record-line .ensures in
     let made = c .before .before .before .before .before .before .before .before .synthesize in
-    let done = c .before .before .before .before .before .enum-told .given .1 in
-    let written = made .ensures .1 .0 ∙ ap (λ (o : Outcome). filled o (recordOf (s .args .query .now)) _) done in
-    (line .0, put-as (ap recordLine written ∙ query-made (s .args .query .now) _ refl (sym (made .ensures .0) ∙ done)) (line .1))
+    let line = c .before .before .record-line .ensures in
+    (line .0, put-as (query-made (c .before .before .before .before .before .before .before .before .before .before .before .before .args .query .now) _ refl _ (made .ensures .1 .0) (made .ensures .0) (c .before .before .before .before .before .enum-told .given .1)) (line .1))
 
 pub query-line-spec : {M : Type 1} → statement M
 query-line-spec =

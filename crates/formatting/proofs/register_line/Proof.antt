@@ -4,8 +4,9 @@ use native.Mathlib.Omega.{arith}
 use borrow.Author.Needs.{needs}
 use Rattle.lists.specs.Text.{bytes}
 use Rattle.candidate.specs.Rules.{aCells}
+use Rattle.formatting.proofs.Degree.{degree-cells}
 use Rattle.formatting.proofs.Putting.{put-size, put-counts, put-more}
-use Rattle.formatting.proofs.Wording.{degree-cells, register-told}
+use Rattle.formatting.proofs.Wording.{register-told}
 use Rattle.formatting.proofs.register_line.Statement.{statement}
 use Rattle.formatting.proofs.register_line.Tie as tie
 

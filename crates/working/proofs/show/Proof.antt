@@ -14,23 +14,20 @@ slice-aggregate-work-2 c = search needs
 work-requires : tie.Need-work-requires
 work-requires c κs = search needs
 
-enum-known-reply : tie.Need-enum-known-reply
-enum-known-reply c = search needs
+slice-aggregate-reported-line : tie.Need-slice-aggregate-reported-line
+slice-aggregate-reported-line c = search needs
 
-refusal-line-requires : tie.Need-refusal-line-requires
-refusal-line-requires c κs = search needs
+reported-line-requires : tie.Need-reported-line-requires
+reported-line-requires c κs = search needs
 
-enum-known-reply-2 : tie.Need-enum-known-reply-2
-enum-known-reply-2 c = search needs
+enum-told : tie.Need-enum-told
+enum-told c = search needs
 
-slice-aggregate-register-line : tie.Need-slice-aggregate-register-line
-slice-aggregate-register-line c = search needs
-
-register-line-requires : tie.Need-register-line-requires
-register-line-requires c κs = search needs
+enum-told-2 : tie.Need-enum-told-2
+enum-told-2 c = search needs
 
 table-requires : tie.Need-table-requires
-table-requires c κs = count-fits _ _ _ _ _ (c .before .before .before .before .before .before .before .before .work .ensures .0) .1
+table-requires c κs = count-fits _ _ _ _ _ (c .before .before .before .before .before .before .before .work .ensures .0) .1
 
 returns : tie.Need-returns
 returns c = search needs
@@ -45,11 +42,10 @@ show-spec =
     slice-aggregate-work
     slice-aggregate-work-2
     work-requires
-    enum-known-reply
-    refusal-line-requires
-    enum-known-reply-2
-    slice-aggregate-register-line
-    register-line-requires
+    slice-aggregate-reported-line
+    reported-line-requires
+    enum-told
+    enum-told-2
     table-requires
     returns
     returns-2)
