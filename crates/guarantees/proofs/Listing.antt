@@ -17,7 +17,7 @@ use Rattle.sequence.specs.declared.Sequence.{Sequence}
 use Rattle.sequence.specs.declared.Outcome.{Outcome}
 use Rattle.sequence.specs.declared.Reported.{Reported}
 use Rattle.sequence.specs.declared.Reported.the-variants.{Length, Refused}
-use Rattle.sequence.specs.Limits.{maxModulus, maxCells, aBytes, bBytes}
+use Rattle.sequence.specs.Limits.{maxModulus, aBytes, bBytes}
 use Rattle.sequence.specs.Rules.{openOf, sequenceOf}
 use Rattle.sequence.specs.Report.{aBuffer, reportOf, written, filled}
 use Rattle.candidate.specs.Rules.{aCells}
