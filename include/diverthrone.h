@@ -4,7 +4,7 @@
  * A register of length l is a_0 .. a_l with a_0 = 1 and b_0 .. b_(l-1); it generates the terms S when S * a and b agree modulo m in every
  * coefficient 0 .. n-1, so that from place l on each term is minus the sum of a_i times the term i places back.
  * The listing calls the length of a shortest register its start, and the degree of a, the last place of a that is not 0, its order; the order
- * is at most the start, and a is 0 past it. Records keep the length.
+ * is at most the start, and a is 0 past the order. Records keep the length.
  * Coefficients are lent as cells of two bytes: 129 cells (258 bytes) for a, 128 cells (256 bytes) for b, zero past the length.
  * A record is 776 bytes: the query (0..259), the length (260), a (262..519), b (520..775). A catalogue is records end to end.
  *

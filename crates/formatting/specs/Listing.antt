@@ -1,4 +1,4 @@
--- The listing as bytes: its first line, and the line of a query.
+-- The listing as bytes: its first line, and the lines of queries, of registers that are reported and of typed lines.
 -- Assumes nothing.
 use mathlib.Core.List.{List, [], _∷_, _++_}
 use Prim.Native.Nat.{ℕ, suc}

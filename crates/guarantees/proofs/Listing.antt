@@ -49,7 +49,7 @@ module _ (m : ℕ) (low : 2 ≤ m) (high : m ≤ maxModulus) (ts : List ℕ) (g 
       ∙ a-back (holding m ts) (holding-sound m low high ts g) i
       ∙ ap (λ (y : T.Register). at (y .a) i) (same-register m low high ts g)
 
-  pub ordered : Ordered m ts (reportOf (holding m ts) a b) (aAfter (holding m ts) a b)
+  ordered : Ordered m ts (reportOf (holding m ts) a b) (aAfter (holding m ts) a b)
   ordered =
       record {
         start = x .length;
