@@ -36,7 +36,8 @@ static const int BATCH = 16, POOL = 1024;
 static uint32_t terms[POOL][128];
 static uint8_t queries[POOL][260];
 static uint32_t a[129], b[128], lens[129], a2[129], lens2[129];
-static uint8_t a_cells[258], b_cells[256], record[776];
+static const size_t RECORD = DIVERTHRONE_RECORD_BYTES;
+static uint8_t a_cells[258], b_cells[256], record[RECORD];
 
 static uint64_t state = 1;
 static uint32_t below(uint32_t m) {
@@ -155,7 +156,7 @@ static void primes() {
                          nmod_berlekamp_massey_reduce(B);
                          nmod_berlekamp_massey_clear(B);
                      }});
-        e.push_back({"record", [](int j) { diverthrone_synthesize(queries[j], 260, record, 776); }});
+        e.push_back({"record", [](int j) { diverthrone_synthesize(queries[j], 260, record, RECORD); }});
         e.push_back({"steps", [=](int j) { timing_steps(p, terms[j], 128, a, lens); }});
         auto t = measure(e, 1001);
         printf("%6u  %.2f  %.2f  %.2f  %.2f  %.2f  %.1f\n", p, t[0] / t[3], t[0] / t[4], t[5] / t[0], t[0] / t[6], t[5] / t[6], t[0]);
@@ -196,23 +197,26 @@ static void growth() {
 
 static uint64_t by_memcmp(const uint8_t *query, const uint8_t *catalogue, size_t count) {
     for (size_t i = 0; i < count; i++)
-        if (memcmp(query, catalogue + 776 * i, 260) == 0) return 1 + i;
+        if (memcmp(query, catalogue + RECORD * i, 260) == 0) return 1 + i;
     return 0;
 }
 
 static void look_up() {
     const size_t count = 20000;
-    static std::vector<uint8_t> catalogue(776 * count);
+    static std::vector<uint8_t> catalogue(RECORD * count);
     prepare(4093, 128);
     for (size_t i = 0; i < count; i++) {
         for (int j = 0; j < 128; j++) terms[0][j] = below(4093), queries[0][4 + 2 * j] = terms[0][j] & 255, queries[0][5 + 2 * j] = terms[0][j] >> 8;
-        diverthrone_synthesize(queries[0], 260, &catalogue[776 * i], 776);
+        diverthrone_synthesize(queries[0], 260, &catalogue[RECORD * i], RECORD);
     }
     volatile uint64_t sink = 0;
-    auto t = measure({{"look_up", [&](int) { diverthrone_look_up(queries[0], 260, catalogue.data(), catalogue.size(), record, 776); }},
-                      {"memcmp", [&](int) { sink += by_memcmp(queries[0], catalogue.data(), count); memcpy(record, &catalogue[776 * (count - 1)], 776); }}},
+    auto asked = [&](uint64_t who) { diverthrone_look_up(queries[0], 260, catalogue.data(), catalogue.size(), who, record, RECORD); };
+    auto t = measure({{"visitor", [&](int) { asked(0); }},
+                      {"editor", [&](int) { asked(1); }},
+                      {"memcmp", [&](int) { sink += by_memcmp(queries[0], catalogue.data(), count); memcpy(record, &catalogue[RECORD * (count - 1)], RECORD); }}},
                      31);
-    printf("look_up of the last of %zu records with the same modulus and count: / C loop over memcmp, us\n        %.2f  %.1f\n", count, t[0] / t[1], t[0]);
+    printf("look_up of the last of %zu records with the same modulus and count: / C loop over memcmp for a visitor, for an editor; us\n", count);
+    printf("        %.2f  %.2f  %.1f\n", t[0] / t[2], t[1] / t[2], t[0]);
 }
 
 // A line of n terms of up to so many digits, every third negative, with a blank behind each comma.
@@ -245,7 +249,7 @@ static void lines() {
         auto t = measure({{"read_line", [&](int i) { diverthrone_read_line(at(i), pool[i].size(), ours, 260); }},
                           {"descent", [&](int i) { plain_read_line(at(i), pool[i].size(), plain); }},
                           {"strtol", [&](int i) { strtol_read_line(pool[i].c_str(), by_strtol); }},
-                          {"record", [&](int i) { diverthrone_synthesize(queries[i], 260, record, 776); }}},
+                          {"record", [&](int i) { diverthrone_synthesize(queries[i], 260, record, RECORD); }}},
                          101);
         printf("  %3d  %d  %.2f  %.2f  %.2f  %.2f  %zu\n", n, digits, t[0] / t[1], t[0] / t[2], t[0] / t[3], t[0], bytes / POOL);
     }

@@ -6,7 +6,8 @@
  * The listing calls the length of a shortest register its start, and the degree of a, the last place of a that is not 0, its order; the order
  * is at most the start, and a is 0 past the order. Records keep the length.
  * Coefficients are lent as cells of two bytes: 129 cells (258 bytes) for a, 128 cells (256 bytes) for b, zero past the length.
- * A record is 776 bytes: the query (0..259), the length (260), a (262..519), b (520..775). A catalogue is records end to end.
+ * A record is 778 bytes: the query (0..259), the length (260), a (262..519), b (520..775) and an accession number (776), which tells who gave
+ * the entry and is 0 in a record just made. A catalogue is records end to end; records of 776 bytes, without the number, are none.
  *
  * Typed lines. A line is "mod ", the modulus in digits without a sign, a colon, then terms with commas between them, without an end mark:
  * "mod 9: 6,3,1,-4,6". A term is digits, with or without a minus before them. Blanks (byte 32) may stand around a term but not inside it,
@@ -25,7 +26,7 @@
  *       4     the query holds something other than zero past its count
  *       5     a lent buffer has another length than stated, or the cells to run are an odd number of bytes
  *       6     a candidate has a coefficient not below m, or a nonzero one past its end (a past the length, b from the length on)
- *      23     the catalogue's length is not a multiple of 776
+ *      23     the catalogue's length is not a multiple of 778
  *      24     the record found is malformed (as in 25, 6, 26) or does not pass the test against the query
  *      25     a candidate's length is above 128
  *      26     a candidate's a_0 is not 1 (if it is not below m, 6 comes first)
@@ -52,12 +53,16 @@ extern "C" {
 #define DIVERTHRONE_QUERY_BYTES 260
 #define DIVERTHRONE_A_BYTES 258
 #define DIVERTHRONE_B_BYTES 256
-#define DIVERTHRONE_RECORD_BYTES 776
+#define DIVERTHRONE_RECORD_BYTES 778
 
 /* The places in a record, in bytes from its start; the query stands at 0. */
 #define DIVERTHRONE_LENGTH_PLACE 260
 #define DIVERTHRONE_A_PLACE 262
 #define DIVERTHRONE_B_PLACE 520
+#define DIVERTHRONE_NUMBER_PLACE 776
+
+/* Who asks: an editor is this number, a visitor any other. */
+#define DIVERTHRONE_EDITOR 1
 
 /* Makes the record of a query: its shortest register. Value 0.
  * Refusals in order: 5 (query, record), 1, 2, 3, 4. */
@@ -65,9 +70,13 @@ uint64_t diverthrone_synthesize(const uint8_t *query, size_t query_len, uint8_t 
 
 /* Looks a query up in a catalogue by all of its 260 bytes. The first record with this query goes out if its register passes the test;
  * if there is none, a record is made. Value: 0 for a record made, 1 + its place for one found, counted from 0.
- * Refusals in order: 5 (query, record), 1, 2, 3, 4, 23, 24. */
-uint64_t diverthrone_look_up(const uint8_t *query, size_t query_len, const uint8_t *catalogue, size_t catalogue_len, uint8_t *record,
-                             size_t record_len);
+ * Refusals in order: 5 (query, record), 1, 2, 3, 4, 23, 24.
+ * Who asks is one number, all 64 bits of it: 1 is an editor, who is served the record as it stands; any other number, 257 and 2^32 + 1 among
+ * them, is a visitor, who sees 0 for the accession number. The reply does not depend on who asks, and matching and the test do not look at
+ * accession numbers: of two catalogues that differ in nothing else, a visitor gets the same reply and the same bytes. The time that a call
+ * takes is not promised. */
+uint64_t diverthrone_look_up(const uint8_t *query, size_t query_len, const uint8_t *catalogue, size_t catalogue_len, uint64_t who,
+                             uint8_t *record, size_t record_len);
 
 /* Tests a candidate register of this length against a query. Value: 0 for yes, 1 + the first place where the product and b differ for no.
  * Refusals in order: 5 (query, a, b), 1, 2, 3, 4, 25, 6, 26. */
@@ -111,8 +120,8 @@ static inline uint64_t diverthrone_synthesize_null(const uint8_t *query, size_t 
 }
 
 static inline uint64_t diverthrone_look_up_null(const uint8_t *query, size_t query_len, const uint8_t *catalogue, size_t catalogue_len,
-                                                uint8_t *record, size_t record_len) {
-    return diverthrone_look_up(diverthrone_in(query, query_len), query_len, diverthrone_in(catalogue, catalogue_len), catalogue_len,
+                                                uint64_t who, uint8_t *record, size_t record_len) {
+    return diverthrone_look_up(diverthrone_in(query, query_len), query_len, diverthrone_in(catalogue, catalogue_len), catalogue_len, who,
                                diverthrone_out(record, record_len), record_len);
 }
 

@@ -9,12 +9,16 @@
 extern const uint8_t *seen[3];
 extern size_t seen_len[3];
 extern uint32_t seen_number[2];
+extern uint64_t seen_who;
 
 enum { LENGTH = 70000, MODULUS = 80000 };
 
+/* 2^32 + 1: cut to 32 bits it would be an editor. */
+static const uint64_t WHO = UINT64_C(4294967297);
+
 static uint64_t synthesize(uint8_t *const p[3], const size_t n[3]) { return diverthrone_synthesize(p[0], n[0], p[1], n[1]); }
 
-static uint64_t look_up(uint8_t *const p[3], const size_t n[3]) { return diverthrone_look_up(p[0], n[0], p[1], n[1], p[2], n[2]); }
+static uint64_t look_up(uint8_t *const p[3], const size_t n[3]) { return diverthrone_look_up(p[0], n[0], p[1], n[1], WHO, p[2], n[2]); }
 
 static uint64_t verify(uint8_t *const p[3], const size_t n[3]) { return diverthrone_verify(p[0], n[0], p[1], n[1], p[2], n[2], LENGTH); }
 
@@ -25,9 +29,9 @@ static uint64_t generate(uint8_t *const p[3], const size_t n[3]) {
 static uint64_t read_line(uint8_t *const p[3], const size_t n[3]) { return diverthrone_read_line(p[0], n[0], p[1], n[1]); }
 
 /* By its address, as from a host's table of functions. */
-static uint64_t (*const address)(const uint8_t *, size_t, const uint8_t *, size_t, uint8_t *, size_t) = diverthrone_look_up;
+static uint64_t (*const address)(const uint8_t *, size_t, const uint8_t *, size_t, uint64_t, uint8_t *, size_t) = diverthrone_look_up;
 
-static uint64_t by_address(uint8_t *const p[3], const size_t n[3]) { return address(p[0], n[0], p[1], n[1], p[2], n[2]); }
+static uint64_t by_address(uint8_t *const p[3], const size_t n[3]) { return address(p[0], n[0], p[1], n[1], WHO, p[2], n[2]); }
 
 struct call {
     const char *name;
@@ -62,7 +66,9 @@ static void one_slice(const struct call *c, size_t slice, int null, size_t len) 
     n[slice] = len;
     memset(seen, 0, sizeof seen);
     memset(seen_number, 0, sizeof seen_number);
+    seen_who = 0;
     check(c->make(p, n) == c->reply && seen_number[0] == c->length && seen_number[1] == c->modulus, c->name, slice);
+    check(seen_who == (c->reply == 2 ? WHO : 0), c->name, slice);
     for (size_t i = 0; i < c->slices; i++) {
         int put_in = i == slice && null && len == 0;
         check((put_in ? seen[i] != NULL : seen[i] == p[i]) && seen_len[i] == n[i], c->name, i);

@@ -1,5 +1,5 @@
-/* The C interface from C: every refusal with its place and order, every verdict, found and made, every byte at every place of a typed line,
- * buffers of every wrong length, NULL for every slice, and that a refusal changes no byte. Expected values are the scope's cases or follow
+/* The C interface from C: every refusal with its place and order, every verdict, found and made, what editors and visitors see, every byte at
+ * every place of a typed line, buffers of every wrong length, NULL for every slice, and that a refusal changes no byte. Expected values are the scope's cases or follow
  * from its words; guard bytes stand around every buffer. It is built as C++ too. */
 #include "diverthrone.h"
 
@@ -62,6 +62,8 @@ static void put(uint8_t *s, size_t cell, unsigned v) {
 
 static unsigned length_in(struct lent *r) { return diverthrone_cell(start(r) + DIVERTHRONE_LENGTH_PLACE, 0); }
 
+static unsigned number_in(struct lent *r) { return diverthrone_cell(start(r) + DIVERTHRONE_NUMBER_PLACE, 0); }
+
 static unsigned a_in(struct lent *r, size_t i) { return diverthrone_cell(start(r) + DIVERTHRONE_A_PLACE, i); }
 
 static unsigned b_in(struct lent *r, size_t i) { return diverthrone_cell(start(r) + DIVERTHRONE_B_PLACE, i); }
@@ -87,13 +89,21 @@ static uint64_t synthesize(struct lent *q, struct lent *r) {
     return reply;
 }
 
-static uint64_t look_up(struct lent *q, struct lent *c, struct lent *r) {
+static uint64_t look_up_for(uint64_t who, struct lent *q, struct lent *c, struct lent *r) {
     called = "look_up";
     keep(q), keep(c), keep(r);
-    uint64_t reply = diverthrone_look_up(given(q), q->len, given(c), c->len, given(r), r->len);
+    uint64_t reply = diverthrone_look_up(given(q), q->len, given(c), c->len, who, given(r), r->len);
     check(unchanged(q) && unchanged(c), "look_up leaves the query and the catalogue");
     check(guarded(r), "look_up keeps to the record");
+    check(diverthrone_refusal(reply) == 0 || unchanged(r), "look_up leaves the record where it refuses");
     return reply;
+}
+
+/* For an editor and then for a visitor: who asks does not change the reply. */
+static uint64_t look_up(struct lent *q, struct lent *c, struct lent *r) {
+    uint64_t editor = look_up_for(DIVERTHRONE_EDITOR, q, c, r), visitor = look_up_for(0, q, c, r);
+    check(editor == visitor, "look_up replies the same to an editor and to a visitor");
+    return visitor;
 }
 
 static uint64_t verify(struct lent *q, struct lent *a, struct lent *b, uint32_t l) {
@@ -332,6 +342,105 @@ static void catalogues(void) {
     refused(look_up(&q, &c, &r), 23, &r, "23 comes before 24");
     lend(&r, 775, 0x5A);
     refused(look_up(&q, &c, &r), 5, &r, "a record of another length");
+}
+
+/* ---- accession numbers ---- */
+
+static const uint64_t askers[] = {0,     1,          2,          3,          255,        256,        257,
+                                  65535, UINT64_C(65537), UINT64_C(4294967295), UINT64_C(4294967296), UINT64_C(4294967297),
+                                  UINT64_C(9223372036854775809), UINT64_C(18446744073709551615)};
+enum { ASKERS = sizeof askers / sizeof *askers };
+
+/* Only the low byte, only the high byte, both, and none. */
+static const unsigned numbers[] = {1, 255, 256, 65280, 258, 65535, 0};
+enum { NUMBERS = sizeof numbers / sizeof *numbers };
+
+/* Record i of the catalogue gets this number. */
+static void number(size_t i, unsigned v) { put(start(&c) + i * RECORD + DIVERTHRONE_NUMBER_PLACE, 0, v); }
+
+/* The record found has case 3's body, and the number as this one sees it. */
+static void found_by(uint64_t who, unsigned v) {
+    lend(&r, RECORD, 0x5A);
+    uint64_t reply = look_up_for(who, &q, &c, &r);
+    check(diverthrone_refusal(reply) == 0 && diverthrone_value(reply) == 3, "found at place 2, whatever the numbers");
+    check(memcmp(start(&r), start(&c) + 2 * RECORD, RECORD - 2) == 0, "the body of the record found goes out");
+    check(number_in(&r) == (who == 1 ? v : 0), "1 sees the number, any other 0");
+}
+
+static void found_by_all(void) {
+    make_catalogue();
+    make_query(&q, 9, nine, 5);
+    for (size_t i = 0; i < NUMBERS; i++) {
+        number(0, 7), number(1, 65535), number(2, numbers[i]);
+        for (size_t j = 0; j < ASKERS; j++) found_by(askers[j], numbers[i]);
+    }
+}
+
+/* Two records of the same query: the first goes out, with its own number. */
+static void first_of_two(void) {
+    make_catalogue();
+    make_query(&q, 9, nine, 5);
+    memcpy(start(&c), start(&c) + 2 * RECORD, RECORD);
+    number(0, 513), number(2, 0);
+    check(look_up_for(1, &q, &c, &r) == 256 && number_in(&r) == 513, "an editor sees the number of the first match");
+    check(look_up_for(2, &q, &c, &r) == 256 && number_in(&r) == 0, "a visitor the same place");
+}
+
+/* A record made has 0 for everyone, whatever was lent. */
+static void made_for_all(void) {
+    make_catalogue();
+    make_query(&q, 11, nine, 5);
+    for (size_t i = 0; i < 3; i++) number(i, 65535);
+    for (size_t j = 0; j < ASKERS; j++) {
+        lend(&r, RECORD, 0x5A);
+        check(look_up_for(askers[j], &q, &c, &r) == 0 && number_in(&r) == 0, "a record made has no number");
+    }
+    lend(&r, RECORD, 0x5A);
+    check(synthesize(&q, &r) == 0 && number_in(&r) == 0, "nor has one that synthesize makes");
+}
+
+/* The test behind 24 does not look at the number, and 24 leaves it as lent. */
+static void tested_without(void) {
+    make_catalogue();
+    make_query(&q, 9, nine, 5);
+    put(start(&c) + 2 * RECORD + DIVERTHRONE_A_PLACE, 3, 2);
+    for (size_t i = 0; i < NUMBERS; i++) {
+        number(2, numbers[i]);
+        lend(&r, RECORD, 0x5A);
+        for (size_t j = 0; j < ASKERS; j++) refused(look_up_for(askers[j], &q, &c, &r), 24, &r, "24, whatever the number");
+    }
+}
+
+/* Records of 776 bytes are none: neither one that is lent for writing nor those of a catalogue. */
+static void old_sizes(void) {
+    static const size_t records[] = {0, 776, 777, 779, 1556}, catalogues[] = {1, 776, 777, 779, 1552, 1555, 1557, 2328};
+    make_catalogue();
+    make_query(&q, 9, nine, 5);
+    for (size_t i = 0; i < sizeof records / sizeof *records; i++) {
+        lend(&r, records[i], 0x5A);
+        refused(look_up(&q, &c, &r), 5, &r, "a record of another length than 778");
+        refused(synthesize(&q, &r), 5, &r, "a record of another length than 778");
+    }
+    lend(&r, RECORD, 0x5A);
+    for (size_t i = 0; i < sizeof catalogues / sizeof *catalogues; i++) {
+        c.len = catalogues[i];
+        refused(look_up(&q, &c, &r), 23, &r, "a catalogue whose length is not a multiple of 778");
+    }
+}
+
+/* 776 * 389 bytes are 388 records of the new size, and taken as such. */
+static void many_records(void) {
+    static uint8_t large[776 * 389];
+    uint8_t query[QUERY], record[RECORD];
+    make_query(&q, 9, nine, 5);
+    memcpy(query, start(&q), QUERY);
+    check(diverthrone_synthesize(query, QUERY, record, RECORD) == 0, "the record of case 3");
+    record[DIVERTHRONE_NUMBER_PLACE] = 9;
+    memcpy(large + 387 * RECORD, record, RECORD);
+    uint64_t reply = diverthrone_look_up(query, QUERY, large, sizeof large, 1, record, RECORD);
+    check(reply == 256 * 388 && record[DIVERTHRONE_NUMBER_PLACE] == 9, "the last of 388 records, for an editor");
+    reply = diverthrone_look_up(query, QUERY, large, sizeof large, 0, record, RECORD);
+    check(reply == 256 * 388 && record[DIVERTHRONE_NUMBER_PLACE] == 0, "the last of 388 records, for a visitor");
 }
 
 static void verdicts(void) {
@@ -887,6 +996,12 @@ int main(void) {
     order_behind_queries();
     case_15();
     catalogues();
+    found_by_all();
+    first_of_two();
+    made_for_all();
+    tested_without();
+    old_sizes();
+    many_records();
     verdicts();
     past_the_length();
     longest();

@@ -3,7 +3,7 @@
  *   robustness --back, robustness --front
  *       replays the script on standard input and writes the same text as the second program for verify, generate, synthesize, look_up and
  *       read_line; the other operations are passed over. --back puts the end of each buffer at the forbidden page, --front its start;
- *       every other call hands over NULL for its empty buffers.
+ *       every other call hands over NULL for its empty buffers, and every other visitor is a number above 2^32 that ends like an editor's.
  *   robustness --expand SEED COPIES
  *       writes the script on standard input again, with so many altered copies behind each of these calls.
  *
@@ -21,7 +21,7 @@
 enum { VERIFY = 4, GENERATE = 5, SYNTHESIZE = 6, LOOK_UP = 7, FORGE = 8, READ_LINE = 10, PUSH_ALL = 11 };
 enum { HEADER = 16, WIDEST = 65535, PAINT = 0xC3, NEAR = 1024 };
 enum { QUERY = DIVERTHRONE_QUERY_BYTES, A = DIVERTHRONE_A_BYTES, B = DIVERTHRONE_B_BYTES, RECORD = DIVERTHRONE_RECORD_BYTES };
-enum { LENGTH_AT = DIVERTHRONE_LENGTH_PLACE, A_AT = DIVERTHRONE_A_PLACE, B_AT = DIVERTHRONE_B_PLACE };
+enum { LENGTH_AT = DIVERTHRONE_LENGTH_PLACE, A_AT = DIVERTHRONE_A_PLACE, B_AT = DIVERTHRONE_B_PLACE, NUMBER_AT = DIVERTHRONE_NUMBER_PLACE };
 
 static const char *const names[] = {"open",       "push",    "register", "profile", "verify",   "generate",
                                     "synthesize", "look_up", "forge",    "trace",   "read_line", "push_all"};
@@ -136,6 +136,12 @@ static void trapped(int signal_number) {
 
 /* ---- the calls ---- */
 
+/* A script has room for 32 bits. */
+static uint64_t asker(const struct call *c) {
+    uint64_t large = ((uint64_t)calls_made << 32) + DIVERTHRONE_EDITOR;
+    return c->number != DIVERTHRONE_EDITOR && calls_made % 2 == 1 ? large : c->number;
+}
+
 static uint64_t enter(const struct call *c, uint8_t *const p[3]) {
     const size_t *n = c->len;
     switch (c->op) {
@@ -143,7 +149,7 @@ static uint64_t enter(const struct call *c, uint8_t *const p[3]) {
     case GENERATE: return diverthrone_generate(c->number, p[0], n[0], p[1], n[1], c->l, p[2], n[2]);
     case SYNTHESIZE: return diverthrone_synthesize(p[0], n[0], p[1], n[1]);
     case READ_LINE: return diverthrone_read_line(p[0], n[0], p[1], n[1]);
-    default: return diverthrone_look_up(p[0], n[0], p[1], n[1], p[2], n[2]);
+    default: return diverthrone_look_up(p[0], n[0], p[1], n[1], asker(c), p[2], n[2]);
     }
 }
 
@@ -295,7 +301,7 @@ static void wrong_terms(struct call *c) {
 
 static void one_length(struct call *c) {
     size_t i = below(buffers(c)), len = c->len[i], less = len > 1 ? len - 2 : 0, r = any();
-    const size_t lengths[] = {0, 1, less, less + 1, len + 1, len + 2, len + RECORD, len / 2, r % 1024, r % 258};
+    const size_t lengths[] = {0, 1, less, less + 1, len + 1, len + 2, len + RECORD, len / 2, len / RECORD * NUMBER_AT, r % 1024, r % 258};
     set_length(c, i, lengths[below(sizeof lengths / sizeof *lengths)]);
 }
 
@@ -333,6 +339,15 @@ static void other_lead(struct call *c) {
     if (below(3) == 0) one_cell(c);
 }
 
+/* Who asks, or the accession number in a record. */
+static void other_number(struct call *c) {
+    uint8_t *record = some_record(c);
+    uint32_t r = any();
+    const uint32_t askers[] = {0, 1, 1, 1, 2, 256, 257, 65537, r}, values[] = {0, 1, 255, 256, 65280, 65535, r};
+    if (c->op == LOOK_UP && below(2)) c->number = pick(askers, sizeof askers / sizeof *askers);
+    if (record) number_to(record + NUMBER_AT, pick(values, sizeof values / sizeof *values), 2);
+}
+
 static void reduce(uint8_t *s, size_t from, size_t to, uint32_t m) {
     for (size_t i = from; i < to; i++) set_cell(s, i, cell(s, i) % m);
 }
@@ -353,7 +368,7 @@ static void other_modulus(struct call *c) {
         uint8_t *r = c->bytes[1] + i * RECORD;
         if (memcmp(r, c->bytes[0], QUERY) != 0) continue;
         reduce_query(r, m);
-        reduce(r, A_AT / 2, RECORD / 2, m);
+        reduce(r, A_AT / 2, NUMBER_AT / 2, m);
     }
     reduce_query(c->bytes[0], m);
 }
@@ -384,10 +399,11 @@ static void shelve(struct call *c) {
     number_to(record + LENGTH_AT, c->number, 2);
     memcpy(record + A_AT, c->bytes[1], A);
     memcpy(record + B_AT, c->bytes[2], B);
+    number_to(record + NUMBER_AT, any(), 2);
     set_length(c, 1, RECORD * (1 + below(3)));
     for (size_t at = 0; at < c->len[1]; at += RECORD) memcpy(c->bytes[1] + at, record, RECORD);
     set_length(c, 2, RECORD);
-    c->op = LOOK_UP, c->number = 0;
+    c->op = LOOK_UP, c->number = below(3);
 }
 
 static void run_candidate(struct call *c) {
@@ -407,7 +423,7 @@ static void test_record(struct call *c) {
 
 static void synthesize_query(struct call *c) { c->op = SYNTHESIZE, c->number = 0, c->len[1] = RECORD, c->len[2] = 0; }
 
-static void look_up_in_none(struct call *c) { c->op = LOOK_UP, c->len[1] = 0, c->len[2] = RECORD; }
+static void look_up_in_none(struct call *c) { c->op = LOOK_UP, c->number = below(3), c->len[1] = 0, c->len[2] = RECORD; }
 
 /* The same bytes in another operation, which brings the candidates into records and the records into tests. */
 static void other_operation(struct call *c) {
@@ -501,7 +517,7 @@ static void longer(struct call *c) {
 static void alter(struct call *c) {
     static void (*const ways[])(struct call *) = {one_byte,        one_cell,        one_cell,      one_term,      one_term,     wrong_terms,
                                                   one_length,      other_fill,      other_modulus, other_modulus, wild_modulus, other_count,
-                                                  other_operation, other_operation, other_l,       other_lead};
+                                                  other_operation, other_operation, other_l,       other_lead,    other_number};
     static void (*const line_ways[])(struct call *) = {one_byte,   one_piece, one_piece, one_digit, one_digit,  one_number,
                                                        one_number, one_sign,  shorter,   longer,    one_length, other_fill};
     do {

@@ -43,8 +43,8 @@ static uint64_t enter(int kind) {
     case VERIFY: return diverthrone_verify(query, sizeof query, a, DIVERTHRONE_A_BYTES, b, DIVERTHRONE_B_BYTES, l);
     case GENERATE: return diverthrone_generate(modulus, a, DIVERTHRONE_A_BYTES, b, DIVERTHRONE_B_BYTES, l, cells, sizeof cells);
     case SYNTHESIZE: return diverthrone_synthesize(query, sizeof query, record, sizeof record);
-    case MADE: return diverthrone_look_up(query, sizeof query, shelf, 0, record, sizeof record);
-    case FOUND: return diverthrone_look_up(query, sizeof query, shelf, sizeof shelf, record, sizeof record);
+    case MADE: return diverthrone_look_up(query, sizeof query, shelf, 0, 0, record, sizeof record);
+    case FOUND: return diverthrone_look_up(query, sizeof query, shelf, sizeof shelf, 0, record, sizeof record);
     case READ_LINE: return diverthrone_read_line(line, line_len, typed, sizeof typed);
     case REGISTER: return timing_register(modulus, TERMS, terms, a_cells, sizeof a_cells, b_cells, sizeof b_cells) != l;
     case TRACE: return timing_trace(modulus, TERMS, terms, a_cells, sizeof a_cells, b_cells, sizeof b_cells) == 0;

@@ -10,6 +10,7 @@
 const uint8_t *seen[3];
 size_t seen_len[3];
 uint32_t seen_number[2];
+uint64_t seen_who;
 
 static void see(size_t i, const uint8_t *bytes, size_t len) { seen[i] = bytes, seen_len[i] = len; }
 
@@ -18,9 +19,10 @@ uint64_t diverthrone_synthesize(const uint8_t *query, size_t query_len, uint8_t 
     return 1;
 }
 
-uint64_t diverthrone_look_up(const uint8_t *query, size_t query_len, const uint8_t *catalogue, size_t catalogue_len, uint8_t *record,
-                             size_t record_len) {
+uint64_t diverthrone_look_up(const uint8_t *query, size_t query_len, const uint8_t *catalogue, size_t catalogue_len, uint64_t who,
+                             uint8_t *record, size_t record_len) {
     see(0, query, query_len), see(1, catalogue, catalogue_len), see(2, record, record_len);
+    seen_who = who;
     return 2;
 }
 

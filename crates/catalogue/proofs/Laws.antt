@@ -7,8 +7,8 @@ use Prim.Native.Nat.{ℕ, _+_, _-_, _%_, _<_}
 use native.Mathlib.Nat.{lt-irrefl}
 use native.Mathlib.Omega.{arith}
 use lib.Dec.{ltb, eqb}
-use lib.ListN.{length, take, drop, length-drop, length-append, drop-of-length-le}
-use lib.Seq.{take-at, drop-at, take-take, length-take-le, getD-take}
+use lib.ListN.{length, take, drop, set, length-drop, length-append, drop-of-length-le, take-append-drop}
+use lib.Seq.{take-at, drop-at, take-take, take-all, length-take-le, getD-take}
 use borrow.Rule.Slice.PartMut.{putMid, postOf}
 use borrow.Author.Tests.{lt-ltb, le-ltb, ltb-true}
 use Rattle.lists.specs.Choice.{pick}
@@ -30,7 +30,7 @@ use Rattle.catalogue.specs.declared.Match.the-variants as M
 use Rattle.catalogue.specs.declared.LookedUp.{LookedUp}
 use Rattle.catalogue.specs.declared.LookedUp.the-variants as S
 use Rattle.catalogue.specs.Word.{wordOf}
-use Rattle.catalogue.specs.Rules.{recordBytes, aPlace, layout, recordOf, recordAt, queryAt, records, firstMatch, matchOf, passes, serveOf, fetchOf, orElse, lookUpOf, servedIn}
+use Rattle.catalogue.specs.Rules.{recordBytes, bodyBytes, body, noNumber, aPlace, layout, recordOf, recordAt, queryAt, records, firstMatch, matchOf, passes, serveOf, fetchOf, orElse, lookUpOf, editor, seenBy, servedIn}
 
 -- ---- filling a record
 
@@ -39,7 +39,7 @@ step : (p t ys : List ℕ) (a k : ℕ) → length p ≡ a → putMid a k (p ++ t
 step p t ys a k e = rw (take-at p t a e, drop-at p t a e) (sym (append-assoc p ys (drop k t)))
 
 three :
-    (out q l ab : List ℕ) → length out ≡ recordBytes → length q ≡ queryBytes → length l ≡ 2 →
+    (out q l ab : List ℕ) → length out ≡ bodyBytes → length q ≡ queryBytes → length l ≡ 2 →
     putMid aPlace registerBytes (putMid queryBytes 2 (q ++ postOf 0 queryBytes out) l) ab ≡ q ++ (l ++ ab)
 three out q l ab ho hq hl =
     ap (λ (z : List ℕ). putMid aPlace registerBytes z ab) (step q (postOf 0 queryBytes out) l queryBytes 2 hq)
@@ -60,14 +60,14 @@ one-cell (x ∷ []) v e = absurd (omega arith)
 one-cell (x ∷ y ∷ []) v e = refl
 one-cell (x ∷ y ∷ z ∷ xs) v e = absurd (omega arith)
 
--- the record, by the three calls that fill it
-pub is-record :
-    (out query q l ab : List ℕ) (s : Sequence) (x : Synthesis) → length out ≡ recordBytes → length query ≡ queryBytes → q ≡ query →
+-- the body, by the three calls that fill it
+pub is-body :
+    (out query q l ab : List ℕ) (s : Sequence) (x : Synthesis) → length out ≡ bodyBytes → length query ≡ queryBytes → q ≡ query →
     l ≡ putCell (take 2 (drop queryBytes (q ++ postOf 0 queryBytes out))) 0 (x .length) → ab ≡ bytesOf (x .a) ++ bytesOf (x .b) →
     x ≡ synthesisOf (s .modulus) (s .terms) (s .count) →
     putMid aPlace registerBytes (putMid queryBytes 2 (q ++ postOf 0 queryBytes out) l) ab ≡ layout query s
 unfolding layout synthesisOf
-is-record out query q l ab s x ho hq eq el eab ex =
+is-body out query q l ab s x ho hq eq el eab ex =
     three out q l ab ho size-q (ap length line ∙ two-bytes (x .length))
     ∙ ap (λ (z : List ℕ). z ++ (l ++ ab)) eq
     ∙ ap (λ (z : List ℕ). query ++ (z ++ ab)) line
@@ -88,10 +88,33 @@ is-record out query q l ab s x ho hq eq el eab ex =
     line : l ≡ bytesOf (x .length ∷ [])
     line = el ∙ one-cell (take 2 (drop queryBytes (q ++ postOf 0 queryBytes out))) (x .length) two
 
+-- two bytes that were set to 0
+pub is-hidden : (xs : List ℕ) → length xs ≡ 2 → set (set xs 0 0) 1 0 ≡ noNumber
+is-hidden [] e = absurd (omega arith)
+is-hidden (x ∷ []) e = absurd (omega arith)
+is-hidden (x ∷ y ∷ []) e = refl
+is-hidden (x ∷ y ∷ z ∷ xs) e = absurd (omega arith)
+
+-- a record, by its body and its number
+pub is-record : (out b n : List ℕ) → length out ≡ recordBytes → length b ≡ bodyBytes → putMid bodyBytes 2 (b ++ postOf 0 bodyBytes out) n ≡ b ++ n
+is-record out b n ho hb =
+    step b (postOf 0 bodyBytes out) n bodyBytes 2 hb ∙ ap (λ (z : List ℕ). (b ++ n) ++ z) none ∙ append-nil (b ++ n)
+  where
+    none : drop 2 (postOf 0 bodyBytes out) ≡ []
+    none = drop-of-length-le (postOf 0 bodyBytes out) {i = 2} (omega (arith, length-drop bodyBytes out))
+
 -- of the query's own sequence
-pub is-made : (query : List ℕ) (s : Sequence) → s ≡ sequenceOf query → layout query s ≡ recordOf query
+pub is-made : (query : List ℕ) (s : Sequence) → s ≡ sequenceOf query → layout query s ++ noNumber ≡ recordOf query
 unfolding recordOf
-is-made query s e = ap (layout query) e
+is-made query s e = ap (λ (t : Sequence). layout query t ++ noNumber) e
+
+-- a record with the number that who asks sees
+pub is-seen : (who : ℕ) (entry : List ℕ) → length entry ≡ recordBytes → body entry ++ pick (eqb who editor) (take 2 (drop bodyBytes entry)) noNumber ≡ seenBy who entry
+is-seen who entry h = go (eqb who editor)
+  where
+    go : (t : Bool) → body entry ++ pick t (take 2 (drop bodyBytes entry)) noNumber ≡ pick t entry (body entry ++ noNumber)
+    go true = ap (λ (z : List ℕ). body entry ++ z) (take-all 2 (drop bodyBytes entry) (omega (arith, length-drop bodyBytes entry))) ∙ take-append-drop bodyBytes entry
+    go false = refl
 
 -- ---- searching a catalogue
 
@@ -158,11 +181,11 @@ match-below n k i h = go (ltb k n) refl h
 
 -- what serving record i leaves in the lent buffer
 pub is-served :
-    (s : Sequence) (query catalogue out : List ℕ) (i : ℕ) {r : LookedUp} {x : List ℕ} → r ≡ serveOf s catalogue (M.At i) →
-    x ≡ pick (passes s (recordAt catalogue i)) (recordAt catalogue i) out → x ≡ servedIn r query catalogue out
-is-served s query catalogue out i e f = f ∙ go (passes s (recordAt catalogue i)) ∙ ap (λ (t : LookedUp). servedIn t query catalogue out) (sym e)
+    (s : Sequence) (query catalogue : List ℕ) (who : ℕ) (out : List ℕ) (i : ℕ) {r : LookedUp} {x : List ℕ} → r ≡ serveOf s catalogue (M.At i) →
+    x ≡ pick (passes s (recordAt catalogue i)) (seenBy who (recordAt catalogue i)) out → x ≡ servedIn who r query catalogue out
+is-served s query catalogue who out i e f = f ∙ go (passes s (recordAt catalogue i)) ∙ ap (λ (t : LookedUp). servedIn who t query catalogue out) (sym e)
   where
-    go : (g : Bool) → pick g (recordAt catalogue i) out ≡ servedIn (pick g (S.Found i) (S.Refused R.Record)) query catalogue out
+    go : (g : Bool) → pick g (seenBy who (recordAt catalogue i)) out ≡ servedIn who (pick g (S.Found i) (S.Refused R.Record)) query catalogue out
     go true = refl
     go false = refl
 

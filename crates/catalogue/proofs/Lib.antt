@@ -1,4 +1,6 @@
+pub mod Body
 pub mod Places
 pub mod Laws
 pub mod Answers
 pub mod Refusals
+pub mod Visitors

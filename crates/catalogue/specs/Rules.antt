@@ -24,9 +24,12 @@ use Rattle.catalogue.specs.declared.LookedUp.the-variants as S
 use Rattle.catalogue.specs.declared.Match.{Match}
 use Rattle.catalogue.specs.declared.Match.the-variants as M
 
--- a record: the query at 0, the length at 260, a at 262, b at 520
+-- a record: the query at 0, the length at 260, a at 262, b at 520, the accession number at 776; what stands before the number is its body
 abbrev pub recordBytes : ℕ
-recordBytes = 776
+recordBytes = 778
+
+abbrev pub bodyBytes : ℕ
+bodyBytes = 776
 
 abbrev pub aPlace : ℕ
 aPlace = 262
@@ -38,12 +41,19 @@ bPlace = 520
 abbrev pub lengthCell : ℕ
 lengthCell = 130
 
--- the record of a sequence, behind the bytes of its query
+abbrev pub body : List ℕ → List ℕ
+body entry = take bodyBytes entry
+
+-- the accession number of a record just made
+abbrev pub noNumber : List ℕ
+noNumber = 0 ∷ 0 ∷ []
+
+-- the body of the record of a sequence, behind the bytes of its query
 unfoldable pub layout : List ℕ → Sequence → List ℕ
 layout query s = query ++ (bytesOf (registerOf s .length ∷ []) ++ (aBuffer s ++ bBuffer s))
 
 unfoldable pub recordOf : List ℕ → List ℕ
-recordOf query = layout query (sequenceOf query)
+recordOf query = layout query (sequenceOf query) ++ noNumber
 
 -- 5 (query, record), 1, 2, 3, 4, in this order
 unfoldable pub synthesizeOf : List ℕ → List ℕ → Outcome
@@ -118,8 +128,16 @@ lookUpAnswer query catalogue out =
     ∷ [])))
     (pick (ltb i n) (granted (i ∷ [])) (granted []))
 
--- the record at exit: the one found, the one made, or as lent
-abbrev pub servedIn : LookedUp → List ℕ → List ℕ → List ℕ → List ℕ
-servedIn (S.Found i) query catalogue out = recordAt catalogue i
-servedIn S.Made query catalogue out = recordOf query
-servedIn (S.Refused r) query catalogue out = out
+-- who asks: this number is an editor, any other a visitor
+abbrev pub editor : ℕ
+editor = 1
+
+-- a record as who asks sees it: an editor as it stands, a visitor with 0 for its number
+abbrev pub seenBy : ℕ → List ℕ → List ℕ
+seenBy who entry = pick (eqb who editor) entry (body entry ++ noNumber)
+
+-- the record at exit: the one found, as who asks sees it, the one made, or as lent
+abbrev pub servedIn : ℕ → LookedUp → List ℕ → List ℕ → List ℕ → List ℕ
+servedIn who (S.Found i) query catalogue out = seenBy who (recordAt catalogue i)
+servedIn who S.Made query catalogue out = recordOf query
+servedIn who (S.Refused r) query catalogue out = out

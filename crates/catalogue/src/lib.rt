@@ -7,7 +7,9 @@ use sequence::QUERY_BYTES;
 use sequence::Refusal;
 use sequence::Sequence;
 ghost use mathlib.Core.Path.{_≡_};
+ghost use mathlib.Core.List.{_++_};
 ghost use Prim.Native.Nat.{_+_, _*_, _/_, _≤_, _<_};
+ghost use lib.Dec.{eqb};
 ghost use lib.ListN.{length, take};
 ghost use Rattle.cells.specs.Cell.{equal};
 ghost use Rattle.sequence.specs.Limits.{queryBytes};
@@ -16,17 +18,22 @@ ghost use Rattle.sequence.specs.Answers.{outcomeAnswer};
 ghost use Rattle.sequence.specs.Rules.{IsSound, sequenceOf};
 ghost use Rattle.sequence.specs.Report.{filled};
 ghost use Rattle.catalogue.specs.Word.{wordOf};
-ghost use Rattle.catalogue.specs.Rules.{recordBytes, layout, recordOf, synthesizeOf, synthesizeAnswer, records, recordAt, firstMatch, matchOf, passes, serveOf, fetchOf, lookedUpAnswer, lookUpOf, lookUpAnswer, servedIn};
+ghost use Rattle.catalogue.specs.Rules.{recordBytes, bodyBytes, noNumber, layout, recordOf, synthesizeOf, synthesizeAnswer, records, recordAt, firstMatch, matchOf, passes, serveOf, fetchOf, lookedUpAnswer, lookUpOf, lookUpAnswer, editor, seenBy, servedIn};
 
-// A record is the query, the length, a and b. a and b begin at these bytes.
+// A record is the query, the length, a, b and the accession number. a, b and the number begin at these bytes.
 pub const A_PLACE: usize = QUERY_BYTES + 2;
 
 pub const B_PLACE: usize = A_PLACE + A_BYTES;
 
-pub const RECORD_BYTES: usize = B_PLACE + B_BYTES;
+const NUMBER_PLACE: usize = B_PLACE + B_BYTES;
+
+pub const RECORD_BYTES: usize = NUMBER_PLACE + 2;
 
 // The length stands in this cell.
 pub const LENGTH_CELL: usize = QUERY_BYTES / 2;
+
+// Who asks: an editor is this number, a visitor any other.
+const EDITOR: u64 = 1;
 
 pub enum LookedUp {
     Found(usize),
@@ -39,15 +46,33 @@ enum Match {
     Nowhere,
 }
 
-// The record of a query with the sound sequence s. The part from byte 262 on is lent to the code that writes a register.
-fn write_record(query: &[u8], s: Sequence, out: &mut [u8])
-    requires { ⌜ (length (now query) ≡ queryBytes) × IsSound s × (length (now out) ≡ recordBytes) ⌝ }
+// The body of the record of a query with the sound sequence s. The part from byte 262 on is lent to the code that writes a register.
+fn write_body(query: &[u8], s: Sequence, out: &mut [u8])
+    requires { ⌜ (length (now query) ≡ queryBytes) × IsSound s × (length (now out) ≡ bodyBytes) ⌝ }
     ensures { λ _. ⌜ now (out .exit) ≡ layout (now (query .entry)) s ⌝ }
 {
     let x = sequence::solve(s);
     cells::copy(query, &mut out[0..QUERY_BYTES]);
     cells::put(&mut out[QUERY_BYTES..A_PLACE], 0, x.length);
-    sequence::write_register(x, &mut out[A_PLACE..RECORD_BYTES]);
+    sequence::write_register(x, &mut out[A_PLACE..NUMBER_PLACE]);
+}
+
+// 0 for an accession number.
+fn hide(number: &mut [u8])
+    requires { ⌜ length (now number) ≡ 2 ⌝ }
+    ensures { λ _. ⌜ now (number .exit) ≡ noNumber ⌝ }
+{
+    number[0] = 0;
+    number[1] = 0;
+}
+
+// The record of a query with the sound sequence s, with no accession number yet.
+fn write_record(query: &[u8], s: Sequence, out: &mut [u8])
+    requires { ⌜ (length (now query) ≡ queryBytes) × IsSound s × (length (now out) ≡ recordBytes) ⌝ }
+    ensures { λ _. ⌜ now (out .exit) ≡ layout (now (query .entry)) s ++ noNumber ⌝ }
+{
+    write_body(query, s, &mut out[0..NUMBER_PLACE]);
+    hide(&mut out[NUMBER_PLACE..RECORD_BYTES]);
 }
 
 // Makes the record of a query.
@@ -126,7 +151,7 @@ fn is_good(s: Sequence, entry: &[u8]) -> bool
     let v = candidate::judge(
         s,
         &entry[A_PLACE..B_PLACE],
-        &entry[B_PLACE..RECORD_BYTES],
+        &entry[B_PLACE..NUMBER_PLACE],
         l,
     );
     match v {
@@ -136,26 +161,51 @@ fn is_good(s: Sequence, entry: &[u8]) -> bool
     }
 }
 
+// The accession number of a record as who asks sees it.
+fn show_number(number: &[u8], who: u64, out: &mut [u8])
+    requires { ⌜ (length (now number) ≡ 2) × (length (now out) ≡ 2) ⌝ }
+    ensures { λ _. ⌜ now (out .exit) ≡ pick (eqb who editor) (now (number .entry)) noNumber ⌝ }
+{
+    if who == EDITOR {
+        cells::copy(number, out);
+        return;
+    }
+    hide(out);
+}
+
+// A record as who asks sees it. For a visitor the number is not even read.
+fn show(entry: &[u8], who: u64, out: &mut [u8])
+    requires { ⌜ (length (now entry) ≡ recordBytes) × (length (now out) ≡ recordBytes) ⌝ }
+    ensures { λ _. ⌜ now (out .exit) ≡ seenBy who (now (entry .entry)) ⌝ }
+{
+    cells::copy(&entry[0..NUMBER_PLACE], &mut out[0..NUMBER_PLACE]);
+    show_number(
+        &entry[NUMBER_PLACE..RECORD_BYTES],
+        who,
+        &mut out[NUMBER_PLACE..RECORD_BYTES],
+    );
+}
+
 // Serves record i.
-fn serve(s: Sequence, catalogue: &[u8], out: &mut [u8], i: usize) -> LookedUp
+fn serve(s: Sequence, catalogue: &[u8], who: u64, out: &mut [u8], i: usize) -> LookedUp
     requires { ⌜ IsSound s × (i < length (now catalogue) / recordBytes) × (length (now out) ≡ recordBytes) ⌝ }
     ensures { λ r. ⌜ r ≡ serveOf s (now (catalogue .entry)) (Match.At i) ⌝ }
-    ensures { λ _. ⌜ now (out .exit) ≡ pick (passes s (recordAt (now (catalogue .entry)) i)) (recordAt (now (catalogue .entry)) i) (now (out .entry)) ⌝ }
+    ensures { λ _. ⌜ now (out .exit) ≡ pick (passes s (recordAt (now (catalogue .entry)) i)) (seenBy who (recordAt (now (catalogue .entry)) i)) (now (out .entry)) ⌝ }
 {
     let at = i * RECORD_BYTES;
     let entry = &catalogue[at..at + RECORD_BYTES];
     if is_good(s, entry) {
-        cells::copy(entry, out);
+        show(entry, who, out);
         return LookedUp::Found(i);
     }
     LookedUp::Refused(Refusal::Record)
 }
 
 // The record of a query that passed its checks, found or made; s is its sequence.
-fn fetch(query: &[u8], s: Sequence, catalogue: &[u8], out: &mut [u8]) -> LookedUp
+fn fetch(query: &[u8], s: Sequence, catalogue: &[u8], who: u64, out: &mut [u8]) -> LookedUp
     requires { ⌜ (length (now query) ≡ queryBytes) × (s ≡ sequenceOf (now query)) × IsSound s × (length (now out) ≡ recordBytes) ⌝ }
     ensures { λ r. ⌜ r ≡ fetchOf (now (query .entry)) (now (catalogue .entry)) ⌝ }
-    ensures { λ r. ⌜ now (out .exit) ≡ servedIn r (now (query .entry)) (now (catalogue .entry)) (now (out .entry)) ⌝ }
+    ensures { λ r. ⌜ now (out .exit) ≡ servedIn who r (now (query .entry)) (now (catalogue .entry)) (now (out .entry)) ⌝ }
 {
     let odd = catalogue.len() % RECORD_BYTES;
     if odd != 0 {
@@ -163,7 +213,7 @@ fn fetch(query: &[u8], s: Sequence, catalogue: &[u8], out: &mut [u8]) -> LookedU
     }
     let f = find(query, catalogue);
     match f {
-        Match::At(i) => serve(s, catalogue, out, i),
+        Match::At(i) => serve(s, catalogue, who, out, i),
         Match::Nowhere => {
             write_record(query, s, out);
             LookedUp::Made
@@ -171,11 +221,12 @@ fn fetch(query: &[u8], s: Sequence, catalogue: &[u8], out: &mut [u8]) -> LookedU
     }
 }
 
-// Looks a query up in a catalogue: the first record with this query, or one made.
-// Rejected: one that says made before it looks; one that matches the terms without modulus and count.
-pub fn look_up(query: &[u8], catalogue: &[u8], out: &mut [u8]) -> LookedUp
+// Looks a query up in a catalogue for who asks: the first record with this query, or one made.
+// Rejected: one that says made before it looks; one that matches the terms without modulus and count; one that shows a visitor whose low
+// bytes are 1 the accession number.
+pub fn look_up(query: &[u8], catalogue: &[u8], who: u64, out: &mut [u8]) -> LookedUp
     ensures { λ r. ⌜ r ≡ lookUpOf (now (query .entry)) (now (catalogue .entry)) (now (out .entry)) ⌝ }
-    ensures { λ r. ⌜ now (out .exit) ≡ servedIn r (now (query .entry)) (now (catalogue .entry)) (now (out .entry)) ⌝ }
+    ensures { λ r. ⌜ now (out .exit) ≡ servedIn who r (now (query .entry)) (now (catalogue .entry)) (now (out .entry)) ⌝ }
     ensures { λ r. ⌜ lookedUpAnswer r ≡ lookUpAnswer (now (query .entry)) (now (catalogue .entry)) (now (out .entry)) ⌝ }
 {
     if out.len() != RECORD_BYTES {
@@ -187,7 +238,7 @@ pub fn look_up(query: &[u8], catalogue: &[u8], out: &mut [u8]) -> LookedUp
         Outcome::Refused(r) => LookedUp::Refused(r),
         Outcome::Done => {
             let s = c.sequence;
-            fetch(query, s, catalogue, out)
+            fetch(query, s, catalogue, who, out)
         }
     }
 }

@@ -54,14 +54,19 @@ pub extern "C" fn diverthrone_synthesize(query: &[u8], out: &mut [u8]) -> u64
     }
 }
 
-// Looks a query up in a catalogue.
-// Rejected: one that says made before it looks; one that serves a record whose place it does not tell.
+// Looks a query up in a catalogue for who asks: 1 is an editor, any other number a visitor.
+// Rejected: one that says made before it looks; one that serves a record whose place it does not tell; one that cuts who asks to 32 bits.
 #[no_mangle]
-pub extern "C" fn diverthrone_look_up(query: &[u8], catalogue: &[u8], out: &mut [u8]) -> u64
+pub extern "C" fn diverthrone_look_up(
+    query: &[u8],
+    catalogue: &[u8],
+    who: u64,
+    out: &mut [u8],
+) -> u64
     ensures { λ r. ⌜ r ≡ codeOf (lookUpAnswer (now (query .entry)) (now (catalogue .entry)) (now (out .entry))) ⌝ }
-    ensures { λ r. ⌜ now (out .exit) ≡ servedIn (lookUpOf (now (query .entry)) (now (catalogue .entry)) (now (out .entry))) (now (query .entry)) (now (catalogue .entry)) (now (out .entry)) ⌝ }
+    ensures { λ r. ⌜ now (out .exit) ≡ servedIn who (lookUpOf (now (query .entry)) (now (catalogue .entry)) (now (out .entry))) (now (query .entry)) (now (catalogue .entry)) (now (out .entry)) ⌝ }
 {
-    let t = catalogue::look_up(query, catalogue, out);
+    let t = catalogue::look_up(query, catalogue, who, out);
     match t {
         LookedUp::Made => 0,
         LookedUp::Found(i) => 256 * (1 + i as u64),

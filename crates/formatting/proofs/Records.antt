@@ -23,9 +23,9 @@ use Rattle.sequence.proofs.Laws.{check-done}
 use Rattle.lines.specs.Reading.{foundIn}
 use Rattle.lines.specs.Reply.{replyOf, readOf, queryIn}
 use Rattle.candidate.specs.Rules.{aCells}
-use Rattle.catalogue.specs.Rules.{recordBytes, aPlace, lengthCell, recordOf, synthesizeOf}
+use Rattle.catalogue.specs.Rules.{recordBytes, body, aPlace, lengthCell, layout, recordOf, synthesizeOf}
 use Rattle.catalogue.proofs.Refusals.{synthesize-query}
-use Rattle.catalogue.proofs.Places.{layout-query, layout-a, layout-length-cell}
+use Rattle.catalogue.proofs.Places.{entry-query, entry-a, entry-length-cell, made-body}
 use Rattle.formatting.specs.Listing.{registerLine, recordLine, refusalLine, lineOf, queryLine, answerLine, typedLine}
 use Rattle.formatting.proofs.Wording.{line-same}
 
@@ -44,35 +44,32 @@ head-cell : (entry query : List ℕ) (i : ℕ) → take queryBytes entry ≡ que
 head-cell entry query i e h = sym (ap (λ (x : List ℕ). cellAt x i) (sym e)
     ∙ ap₂ (λ (x y : ℕ). x + 256 * y) (getD-take queryBytes entry (2 * i) 0 (omega arith)) (getD-take queryBytes entry (2 * i + 1) 0 h))
 
-module _ (query : List ℕ) (fine : checkOf query ≡ Done) where
-  abbrev entry : List ℕ
-  entry = recordOf query
+-- a record with the body of the one made of a query, whatever its accession number
+module _ (query : List ℕ) (fine : checkOf query ≡ Done) (entry : List ℕ) (same : body entry ≡ layout query (sequenceOf query)) where
+  size : length query ≡ queryBytes
+  size = check-done query fine .0
 
   -- the line has what the register's cells of the record show
   pub line-shown : registerLine (cellAt query 0) (cellAt query 1) (cellAt entry lengthCell) (aCells (take aBytes (drop aPlace entry))) ≡ queryLine query
-  unfolding queryLine recordOf sequenceOf
+  unfolding queryLine sequenceOf
   line-shown =
       ap (λ (l : ℕ). registerLine (cellAt query 0) (cellAt query 1) l (aCells (take aBytes (drop aPlace entry))))
-      (layout-length-cell query (sequenceOf query) long (omega (arith, right (sequenceOf query) sound .short, sound .count)))
+      (entry-length-cell query (sequenceOf query) size entry same (omega (arith, right (sequenceOf query) sound .short, sound .count)))
       ∙ line-same (cellAt query 0) (cellAt query 1) _ _ _
-      (λ i. ap (λ (x : List ℕ). at (aCells x) i) (layout-a query (sequenceOf query) long) ∙ a-back (sequenceOf query) sound i)
+      (λ i. ap (λ (x : List ℕ). at (aCells x) i) (entry-a query (sequenceOf query) size entry same) ∙ a-back (sequenceOf query) sound i)
       ∙ sym (ap (λ (o : Outcome). lineOf o (sequenceOf query)) fine)
     where
-      long : length query ≡ queryBytes
-      long = check-done query fine .0
-
       sound : IsSound (sequenceOf query)
       sound = check-done query fine .1
 
   pub line-made : recordLine entry ≡ queryLine query
-  unfolding recordOf
   line-made =
       ap₂ (λ (m n : ℕ). registerLine m n (cellAt entry lengthCell) (aCells (take aBytes (drop aPlace entry))))
       (head-cell entry query 0 front (omega arith)) (head-cell entry query 1 front (omega arith))
       ∙ line-shown
     where
       front : take queryBytes entry ≡ query
-      front = layout-query query (sequenceOf query) (check-done query fine .0)
+      front = entry-query query (sequenceOf query) size entry same
 
 module _ (query out : List ℕ) (size : length out ≡ recordBytes) where
   pub query-refused : {r : Refusal} → synthesizeOf query out ≡ Refused r → refusalLine r ≡ queryLine query
@@ -81,7 +78,10 @@ module _ (query out : List ℕ) (size : length out ≡ recordBytes) where
 
   pub query-made : (entry : List ℕ) {o : Outcome} → entry ≡ filled o (recordOf query) out → o ≡ synthesizeOf query out → o ≡ Done → recordLine entry ≡ queryLine query
   query-made entry {o} e f d =
-      ap recordLine (e ∙ ap (λ (x : Outcome). filled x (recordOf query) out) d) ∙ line-made query (sym (synthesize-query query out size) ∙ sym f ∙ d)
+      line-made query fine entry (ap body (e ∙ ap (λ (x : Outcome). filled x (recordOf query) out) d) ∙ made-body query (check-done query fine .0))
+    where
+      fine : checkOf query ≡ Done
+      fine = sym (synthesize-query query out size) ∙ sym f ∙ d
 
 -- ---- a typed line, read into a query buffer
 

@@ -3,6 +3,7 @@ pub mod Columns
 pub mod Demand
 pub mod Working
 pub mod Records
+pub mod Visitors
 pub mod Cases
 pub mod Numbers
 pub mod Driving

@@ -14,14 +14,14 @@ use Rattle.recurrence.proofs.Polynomial.{degree-past}
 use Rattle.recurrence.proofs.Register.{Right, register-right}
 use Rattle.recurrence.proofs.Start.{order-last, order-within, start-holds, start-first}
 use Rattle.sequence.specs.declared.Sequence.{Sequence}
-use Rattle.sequence.specs.declared.Outcome.{Outcome}
 use Rattle.sequence.specs.declared.Reported.{Reported}
 use Rattle.sequence.specs.declared.Reported.the-variants.{Length, Refused}
 use Rattle.sequence.specs.Limits.{maxModulus, aBytes, bBytes}
 use Rattle.sequence.specs.Rules.{openOf, sequenceOf}
-use Rattle.sequence.specs.Report.{aBuffer, reportOf, written, filled}
+use Rattle.sequence.specs.Report.{aBuffer, reportOf, written}
 use Rattle.candidate.specs.Rules.{aCells}
-use Rattle.catalogue.specs.Rules.{lengthCell, recordOf}
+use Rattle.catalogue.specs.Rules.{body, lengthCell, layout, recordOf, lookUpOf, servedIn}
+use Rattle.catalogue.proofs.Places.{made-body}
 use Rattle.formatting.specs.Listing.{registerLine, recordLine, queryLine, reportedLine}
 use Rattle.formatting.proofs.Records.{a-back, line-shown, line-made}
 use Rattle.formatting.proofs.Reading.{numeral-some, numeral-digits, numeral-value, numeral-front}
@@ -30,7 +30,7 @@ use Rattle.guarantees.specs.Claims.{termsOf, AgreesWith}
 use Rattle.guarantees.specs.Listing.{Ordered, aAfter, EveryOrder, TheListing, Numerals}
 use Rattle.guarantees.proofs.State.{holding, holding-sound, Good, state, good}
 use Rattle.guarantees.proofs.Demand.{reported, same-register}
-use Rattle.guarantees.proofs.Records.{held, least, most, agrees, making, outcome}
+use Rattle.guarantees.proofs.Records.{size, held, least, most, agrees, made-record, outcome}
 
 module _ (m : ℕ) (low : 2 ≤ m) (high : m ≤ maxModulus) (ts : List ℕ) (g : Good m ts) (a b : List ℕ) (ha : length a ≡ aBytes) (hb : length b ≡ bBytes) where
   abbrev x : T.Register
@@ -78,15 +78,15 @@ told (Refused r) = zero
 
 pub the-listing : TheListing
 unfolding TheListing EveryOrder told sequenceOf
-the-listing query catalogue out fine made long calls a b h ha hb =
+the-listing query catalogue who out fine made long calls a b h ha hb =
     record {
       ordered = o;
       line = shows;
       reported =
           shows
           ∙ sym (ap₂ (λ (t : Sequence) (r : Reported). reportedLine t r (aAfter s a b)) reached (o .reported));
-      made = sym (ap (λ (t : Outcome). recordLine (filled t (recordOf query) out)) (making query out fine long) ∙ line-made query fine);
-      served = sym (ap recordLine (outcome query catalogue out fine made long .1) ∙ line-made query fine);
+      made = sym (ap recordLine (made-record query out fine long) ∙ line-made query fine (recordOf query) own);
+      served = sym (line-made query fine (servedIn who (lookUpOf query catalogue out) query catalogue out) (outcome query catalogue who out fine made long .1));
     }
   where
     s : Sequence
@@ -95,15 +95,18 @@ the-listing query catalogue out fine made long calls a b h ha hb =
     o : Ordered (cellAt query 0) (termsOf query) (reportOf s a b) (aAfter s a b)
     o = subst (λ (ts : List ℕ). Ordered (cellAt query 0) ts (reportOf s a b) (aAfter s a b)) h (every-order (cellAt query 0) (least query fine) (most query fine) calls a b ha hb)
 
+    own : body (recordOf query) ≡ layout query (sequenceOf query)
+    own = made-body query (size query fine)
+
     agree : AgreesWith (cellAt query 0) calls a b (recordOf query)
-    agree = agrees query fine calls a b h ha hb
+    agree = agrees query fine (recordOf query) own calls a b h ha hb
 
     same-start : cellAt (recordOf query) lengthCell ≡ o .start
     same-start = ap told (sym (agree .length-same) ∙ o .reported)
 
     shows : queryLine query ≡ registerLine (cellAt query 0) (cellAt query 1) (o .start) (aCells (aAfter s a b))
     shows =
-        sym (line-shown query fine)
+        sym (line-shown query fine (recordOf query) own)
         ∙ ap₂ (λ (l : ℕ) (y : List ℕ). registerLine (cellAt query 0) (cellAt query 1) l (aCells y)) same-start (sym (agree .a-same))
 
     reached : s ≡ sequenceOf query

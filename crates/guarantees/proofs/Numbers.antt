@@ -16,16 +16,16 @@ use Rattle.recurrence.specs.Register.{part, parts, complexity, register}
 use Rattle.recurrence.specs.Working.{caseNumber, partnerTold, stepAt, stepsAt, stepsOver, sheetOf, rowsOver}
 use Rattle.recurrence.specs.Running.{cell, generated, firstDifference}
 use Rattle.sequence.specs.Answers.{firstOf}
-use Rattle.sequence.specs.Rules.{faultOf, openOf, pushOf, sequenceOf}
+use Rattle.sequence.specs.Rules.{faultOf, checkOf, openOf, pushOf, sequenceOf}
 use Rattle.sequence.specs.Trace.{traceOf}
 use Rattle.column.specs.Rules.{eachOf, pushAllOf, eachAnswer}
 use Rattle.candidate.specs.Rules.{flawOf, judgeOf, verifyAnswer, generateAnswer}
-use Rattle.catalogue.specs.Rules.{layout, recordOf, synthesizeAnswer, firstMatch, passes, lookUpAnswer}
+use Rattle.catalogue.specs.Rules.{layout, recordOf, synthesizeAnswer, firstMatch, passes, fetchOf, lookUpOf, lookUpAnswer}
 use Rattle.guarantees.specs.Calls.{afterAll}
 use Rattle.guarantees.specs.Numbers.{Numbers, Orders}
 
 pub numbers : Numbers
-unfolding tabulate largest first all every sumTo bytesOf equal neg inverse valuation cofactor leastDivisor leastPower powersUpTo primePowers joined conv plus times up top degree len discrepancy caseOf partner multiplier change remembered older noOlder next history rowAt part parts complexity register caseNumber partnerTold stepAt stepsAt stepsOver sheetOf rowsOver traceOf cell generated firstDifference firstOf faultOf openOf pushOf afterAll sequenceOf eachOf pushAllOf eachAnswer flawOf judgeOf verifyAnswer generateAnswer layout recordOf synthesizeAnswer firstMatch passes lookUpAnswer
+unfolding tabulate largest first all every sumTo bytesOf equal neg inverse valuation cofactor leastDivisor leastPower powersUpTo primePowers joined conv plus times up top degree len discrepancy caseOf partner multiplier change remembered older noOlder next history rowAt part parts complexity register caseNumber partnerTold stepAt stepsAt stepsOver sheetOf rowsOver traceOf cell generated firstDifference firstOf faultOf checkOf openOf pushOf afterAll sequenceOf eachOf pushAllOf eachAnswer flawOf judgeOf verifyAnswer generateAnswer layout recordOf synthesizeAnswer firstMatch passes fetchOf lookUpOf lookUpAnswer
 numbers =
     record {
       opened = refl;
@@ -50,6 +50,16 @@ numbers =
       made-none-found = refl;
       found-at-0 = refl;
       found-at-1 = refl;
+      found-numbered = refl;
+      shown-1 = refl;
+      shown-1-high = refl;
+      shown-0 = refl;
+      shown-2 = refl;
+      shown-2-high = refl;
+      shown-257 = refl;
+      shown-65537 = refl;
+      shown-large = refl;
+      made-number = refl;
       placed-code-0 = refl;
       placed-code-1 = refl;
       placed-code-127 = refl;
@@ -68,6 +78,8 @@ numbers =
       refused-3-column-first = refl;
       refused-4 = refl;
       refused-5 = refl;
+      refused-5-record = refl;
+      refused-5-served = refl;
       refused-5-odd = refl;
       refused-5-column = refl;
       refused-5-sheet = refl;
@@ -88,6 +100,7 @@ numbers =
       refused-22 = refl;
       refused-22-column = refl;
       refused-23 = refl;
+      refused-23-body = refl;
       refused-24-long = refl;
       refused-24-coefficient = refl;
       refused-24-lead = refl;
@@ -100,7 +113,7 @@ numbers =
     }
 
 pub orders : Orders
-unfolding tabulate largest first all every sumTo bytesOf equal neg inverse valuation cofactor leastDivisor leastPower powersUpTo primePowers joined conv plus times up top degree len discrepancy caseOf partner multiplier change remembered older noOlder next history rowAt part parts complexity register caseNumber partnerTold stepAt stepsAt stepsOver sheetOf rowsOver traceOf cell generated firstDifference firstOf faultOf openOf pushOf afterAll sequenceOf eachOf pushAllOf eachAnswer flawOf judgeOf verifyAnswer generateAnswer layout recordOf synthesizeAnswer firstMatch passes lookUpAnswer
+unfolding tabulate largest first all every sumTo bytesOf equal neg inverse valuation cofactor leastDivisor leastPower powersUpTo primePowers joined conv plus times up top degree len discrepancy caseOf partner multiplier change remembered older noOlder next history rowAt part parts complexity register caseNumber partnerTold stepAt stepsAt stepsOver sheetOf rowsOver traceOf cell generated firstDifference firstOf faultOf checkOf openOf pushOf afterAll sequenceOf eachOf pushAllOf eachAnswer flawOf judgeOf verifyAnswer generateAnswer layout recordOf synthesizeAnswer firstMatch passes fetchOf lookUpOf lookUpAnswer
 orders =
     record {
       push-21-22 = refl;

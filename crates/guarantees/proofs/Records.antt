@@ -2,15 +2,15 @@
 -- Assumes nothing.
 use mathlib.Core.Path.{_≡_, refl, sym, ap, ap₂, _∙_, subst, fun-ext}
 use mathlib.Core.Logic.{_⊎_, inl, inr}
-use mathlib.Core.List.{List, [], map}
+use mathlib.Core.List.{List, [], _++_, map}
 use mathlib.Core.Bool.{Bool, true, false}
 use Prim.Native.Nat.{ℕ, _+_, _*_, _-_, _%_, _≤_, _<_}
 use native.Mathlib.Nat.{mod-eq-of-lt, le-refl, not-suc-le-zero}
 use native.Mathlib.Omega.{arith}
 use lib.Dec.{eqb}
-use lib.ListN.{length, take, drop, replicate, length-append, length-replicate, getD-replicate}
+use lib.ListN.{length, take, drop, replicate, length-append, length-drop, length-replicate, getD-replicate}
 use lib.Seq.{ext-getD, length-take-le, getD-take, getD-append-add, take-take}
-use borrow.Author.Tests.{eq-eqb, lt-ltb, le-ltb}
+use borrow.Author.Tests.{eq-eqb, ne-eqb, lt-ltb, le-ltb}
 use Rattle.lists.specs.Choice.{pick}
 use Rattle.lists.specs.Table.{at, tabulate}
 use Rattle.lists.proofs.Table.{length-tabulate, at-tabulate-all}
@@ -36,9 +36,10 @@ use Rattle.candidate.specs.Rules.{aCells, bCells, IsFine, judgeOf}
 use Rattle.candidate.proofs.Laws.{of-fine, no-difference}
 use Rattle.catalogue.specs.declared.LookedUp.{LookedUp}
 use Rattle.catalogue.specs.declared.LookedUp.the-variants.{Found, Made}
-use Rattle.catalogue.specs.Rules.{recordBytes, recordOf, synthesizeOf, recordAt, queryAt, records, firstMatch, matchOf, passes, serveOf, fetchOf, lookUpOf, servedIn}
+use Rattle.catalogue.specs.Rules.{recordBytes, bodyBytes, body, noNumber, aPlace, bPlace, lengthCell, layout, recordOf, synthesizeOf, recordAt, queryAt, records, firstMatch, matchOf, passes, serveOf, fetchOf, lookUpOf, editor, seenBy, servedIn}
 use Rattle.catalogue.proofs.Refusals.{synthesize-query}
-use Rattle.catalogue.proofs.Places.{layout-query, layout-a, layout-b, layout-length-cell}
+use Rattle.catalogue.proofs.Places.{entry-query, entry-a, entry-b, entry-length-cell, made-body}
+use Rattle.catalogue.proofs.Visitors.{body-seen}
 use Rattle.guarantees.specs.Calls.{Call, push, afterAll, taken}
 use Rattle.guarantees.specs.Claims.{MadeRecord, MadeCatalogue, termsOf, AgreesWith, MadeServedReported}
 use Rattle.guarantees.proofs.State.{holding, padded, padded-at, Good, state, all-pushed}
@@ -119,18 +120,17 @@ module _ (query : List ℕ) (fine : checkOf query ≡ Done) where
   pub terms-pushed : taken (cellAt query 0) (map push (termsOf query)) ≡ termsOf query
   terms-pushed = all-pushed (cellAt query 0) least most (termsOf query) good
 
-  -- ---- the record agrees with the register
+  -- ---- a record with the body of the query's record agrees with the register
 
-  pub agrees : (calls : List Call) (a b : List ℕ) → taken (cellAt query 0) calls ≡ termsOf query → length a ≡ aBytes → length b ≡ bBytes
-      → AgreesWith (cellAt query 0) calls a b (recordOf query)
-  unfolding recordOf
-  agrees calls a b h ha hb =
+  pub agrees : (entry : List ℕ) → body entry ≡ layout query (sequenceOf query) → (calls : List Call) (a b : List ℕ) → taken (cellAt query 0) calls ≡ termsOf query
+      → length a ≡ aBytes → length b ≡ bBytes → AgreesWith (cellAt query 0) calls a b entry
+  agrees entry same calls a b h ha hb =
       record {
-        length-same = answer ∙ ap Length (sym (layout-length-cell query (sequenceOf query) size small));
+        length-same = answer ∙ ap Length (sym (entry-length-cell query (sequenceOf query) size entry same small));
         a-same =
-            ap₂ (λ (r : Reported) (t : Sequence). written r (aBuffer t) a) answer reached ∙ sym (layout-a query (sequenceOf query) size);
+            ap₂ (λ (r : Reported) (t : Sequence). written r (aBuffer t) a) answer reached ∙ sym (entry-a query (sequenceOf query) size entry same);
         b-same =
-            ap₂ (λ (r : Reported) (t : Sequence). written r (bBuffer t) b) answer reached ∙ sym (layout-b query (sequenceOf query) size);
+            ap₂ (λ (r : Reported) (t : Sequence). written r (bBuffer t) b) answer reached ∙ sym (entry-b query (sequenceOf query) size entry same);
       }
     where
       reached : afterAll (openOf (cellAt query 0) .sequence) calls ≡ sequenceOf query
@@ -145,7 +145,7 @@ module _ (query : List ℕ) (fine : checkOf query ≡ Done) where
           same-length : registerOf (holding (cellAt query 0) (termsOf query)) .length ≡ register (cellAt query 0) (termsOf query) (length (termsOf query)) .length
           same-length = ap (λ (y : Register). y .length) (same-register (cellAt query 0) least most (termsOf query) good)
 
-  -- ---- the record passes its own test
+  -- ---- and passes its own test
 
   a-back : aCells (aBuffer (sequenceOf query)) ≡ tabulate maxCells (at (registerOf (sequenceOf query) .a))
   unfolding s
@@ -189,26 +189,22 @@ module _ (query : List ℕ) (fine : checkOf query ≡ Done) where
       ap₂ (λ (a b : List ℕ). judgeOf (sequenceOf query) a b (registerOf (sequenceOf query) .length)) a-back b-back
       ∙ rw (of-fine _ _ _ _ fine-candidate, agree, le-ltb (sequenceOf query .count) (sequenceOf query .count) (le-refl _))
 
-  pub record-passes : passes (sequenceOf query) (recordOf query) ≡ true
-  unfolding passes recordOf
-  record-passes =
+  pub record-passes : (entry : List ℕ) → body entry ≡ layout query (sequenceOf query) → passes (sequenceOf query) entry ≡ true
+  unfolding passes
+  record-passes entry same =
       rw (
-        layout-a query (sequenceOf query) size,
-        layout-b query (sequenceOf query) size,
-        layout-length-cell query (sequenceOf query) size small,
+        entry-a query (sequenceOf query) size entry same,
+        entry-b query (sequenceOf query) size entry same,
+        entry-length-cell query (sequenceOf query) size entry same small,
         judged,
       )
-
-record-query : (query : List ℕ) → length query ≡ queryBytes → take queryBytes (recordOf query) ≡ query
-unfolding recordOf
-record-query query h = layout-query query (sequenceOf query) h
 
 -- ---- making
 
 pub making : (query out : List ℕ) → checkOf query ≡ Done → length out ≡ recordBytes → synthesizeOf query out ≡ Done
 making query out fine h = synthesize-query query out h ∙ fine
 
-making-checked : (query out : List ℕ) → synthesizeOf query out ≡ Done → checkOf query ≡ Done
+pub making-checked : (query out : List ℕ) → synthesizeOf query out ≡ Done → checkOf query ≡ Done
 unfolding synthesizeOf
 making-checked query out h = go (eqb (length out) recordBytes) h
   where
@@ -216,17 +212,21 @@ making-checked query out h = go (eqb (length out) recordBytes) h
     go true h = h
     go false h = let z : _≡_ {A = ℕ} 0 1 = cc in absurd (omega arith)
 
--- a made record with this query in front is the record of this query
-made-same : (query entry : List ℕ) → MadeRecord entry → take queryBytes entry ≡ query → entry ≡ recordOf query
-made-same query entry made h = is ∙ ap recordOf same
+pub made-record : (query out : List ℕ) → checkOf query ≡ Done → length out ≡ recordBytes → filled (synthesizeOf query out) (recordOf query) out ≡ recordOf query
+made-record query out fine h = ap (λ (t : Outcome). filled t (recordOf query) out) (making query out fine h)
+
+-- a made record with this query in front has the body of the record of this query
+made-same : (query entry : List ℕ) → MadeRecord entry → take queryBytes entry ≡ query → body entry ≡ layout query (sequenceOf query)
+made-same query entry made h = is ∙ ap (λ (q : List ℕ). layout q (sequenceOf q)) same
   where
-    is : entry ≡ recordOf (made .query)
-    is = made .same ∙ ap (λ (o : Outcome). filled o (recordOf (made .query)) (made .out)) (made .made)
+    long : length (made .query) ≡ queryBytes
+    long = size (made .query) (making-checked (made .query) (made .out) (made .made))
+
+    is : body entry ≡ layout (made .query) (sequenceOf (made .query))
+    is = made .same ∙ ap (λ (o : Outcome). body (filled o (recordOf (made .query)) (made .out))) (made .made) ∙ made-body (made .query) long
 
     same : made .query ≡ query
-    same =
-        sym (record-query (made .query) (check-done (made .query) (making-checked (made .query) (made .out) (made .made)) .0))
-        ∙ ap (take queryBytes) (sym is) ∙ h
+    same = sym (entry-query (made .query) (sequenceOf (made .query)) long entry is) ∙ h
 
 -- the empty catalogue is one that was made
 pub empty-made : MadeCatalogue []
@@ -234,14 +234,15 @@ empty-made = record { whole = refl; each = λ i h. absurd (not-suc-le-zero h) }
 
 -- ---- serving
 
-module _ (query catalogue out : List ℕ) (fine : checkOf query ≡ Done) (made : MadeCatalogue catalogue) (long : length out ≡ recordBytes) where
+module _ (query catalogue : List ℕ) (who : ℕ) (out : List ℕ) (fine : checkOf query ≡ Done) (made : MadeCatalogue catalogue) (long : length out ≡ recordBytes) where
   looked : lookUpOf query catalogue out ≡ serveOf (sequenceOf query) catalogue (matchOf (records catalogue) (firstMatch query catalogue (records catalogue)))
   unfolding lookUpOf fetchOf
   looked = rw (eq-eqb (length out) recordBytes long, fine, eq-eqb (length catalogue % recordBytes) 0 (made .whole))
 
-  found-record : firstMatch query catalogue (records catalogue) < records catalogue → recordAt catalogue (firstMatch query catalogue (records catalogue)) ≡ recordOf query
+  found-body : firstMatch query catalogue (records catalogue) < records catalogue
+      → body (recordAt catalogue (firstMatch query catalogue (records catalogue))) ≡ layout query (sequenceOf query)
   unfolding firstMatch
-  found-record h = made-same query (recordAt catalogue j) (made .each j h) key
+  found-body h = made-same query (recordAt catalogue j) (made .each j h) key
     where
       j : ℕ
       j = firstMatch query catalogue (records catalogue)
@@ -251,8 +252,23 @@ module _ (query catalogue out : List ℕ) (fine : checkOf query ≡ Done) (made 
           take-take queryBytes recordBytes (drop (j * recordBytes) catalogue) (omega arith)
           ∙ sym (equal-eq query (queryAt catalogue j) (first-passes (records catalogue) (λ k. equal query (queryAt catalogue k)) h))
 
+  -- the record found as who asks sees it
+  found-seen : firstMatch query catalogue (records catalogue) < records catalogue
+      → body (seenBy who (recordAt catalogue (firstMatch query catalogue (records catalogue)))) ≡ layout query (sequenceOf query)
+  found-seen h = body-seen who (recordAt catalogue j) (omega (arith, length-take-le recordBytes (drop (j * recordBytes) catalogue) (omega (arith, length-drop (j * recordBytes) catalogue)))) ∙ found-body h
+    where
+      j : ℕ
+      j = firstMatch query catalogue (records catalogue)
+
+  visitor-seen : (who ≡ editor → ⊥) → firstMatch query catalogue (records catalogue) < records catalogue
+      → seenBy who (recordAt catalogue (firstMatch query catalogue (records catalogue))) ≡ recordOf query
+  unfolding recordOf
+  visitor-seen v h = rw (ne-eqb who editor v) (ap (λ (b : List ℕ). b ++ noNumber) (found-body h))
+
+  -- the reply, and the record served: its body, and for a visitor all of it
   pub outcome : (((j : ℕ) × (lookUpOf query catalogue out ≡ Found j)) ⊎ (lookUpOf query catalogue out ≡ Made))
-      × (servedIn (lookUpOf query catalogue out) query catalogue out ≡ recordOf query)
+      × (body (servedIn who (lookUpOf query catalogue out) query catalogue out) ≡ layout query (sequenceOf query))
+      × ((who ≡ editor → ⊥) → servedIn who (lookUpOf query catalogue out) query catalogue out ≡ recordOf query)
   outcome = go (lt-or-le j (records catalogue))
     where
       j : ℕ
@@ -260,29 +276,42 @@ module _ (query catalogue out : List ℕ) (fine : checkOf query ≡ Done) (made 
 
       go : (j < records catalogue) ⊎ (records catalogue ≤ j)
           → (((j : ℕ) × (lookUpOf query catalogue out ≡ Found j)) ⊎ (lookUpOf query catalogue out ≡ Made))
-          × (servedIn (lookUpOf query catalogue out) query catalogue out ≡ recordOf query)
-      go (inl h) = (inl (j, at-j), ap (λ (t : LookedUp). servedIn t query catalogue out) at-j ∙ found-record h)
+          × (body (servedIn who (lookUpOf query catalogue out) query catalogue out) ≡ layout query (sequenceOf query))
+          × ((who ≡ editor → ⊥) → servedIn who (lookUpOf query catalogue out) query catalogue out ≡ recordOf query)
+      go (inl h) = (
+        inl (j, at-j),
+        ap (λ (t : LookedUp). body (servedIn who t query catalogue out)) at-j ∙ found-seen h,
+        λ v. ap (λ (t : LookedUp). servedIn who t query catalogue out) at-j ∙ visitor-seen v h,
+      )
         where
           at-j : lookUpOf query catalogue out ≡ Found j
-          at-j = looked ∙ rw (lt-ltb j (records catalogue) h, found-record h, record-passes query fine)
-      go (inr h) = (inr none, ap (λ (t : LookedUp). servedIn t query catalogue out) none)
+          at-j = looked ∙ rw (lt-ltb j (records catalogue) h, record-passes query fine (recordAt catalogue j) (found-body h))
+      go (inr h) = (
+        inr none,
+        ap (λ (t : LookedUp). body (servedIn who t query catalogue out)) none ∙ made-body query (size query fine),
+        λ v. ap (λ (t : LookedUp). servedIn who t query catalogue out) none,
+      )
         where
           none : lookUpOf query catalogue out ≡ Made
           none = looked ∙ rw (le-ltb j (records catalogue) h)
 
 pub same : MadeServedReported
 unfolding MadeServedReported
-same query catalogue out fine made long =
+same query catalogue who out fine made long =
     record {
       pushed = terms-pushed query fine;
       made = making query out fine long;
       served = o .0;
-      record-made = λ calls a b h ha hb.
-          subst (AgreesWith (cellAt query 0) calls a b)
-          (sym (ap (λ (t : Outcome). filled t (recordOf query) out) (making query out fine long))) (agrees query fine calls a b h ha hb);
-      record-served = λ calls a b h ha hb. subst (AgreesWith (cellAt query 0) calls a b) (sym (o .1)) (agrees query fine calls a b h ha hb);
+      record-made = agrees query fine (filled (synthesizeOf query out) (recordOf query) out) written-body;
+      record-served = agrees query fine (servedIn who (lookUpOf query catalogue out) query catalogue out) (o .1);
+      body-served = o .1 ∙ sym written-body;
+      visitor-served = λ v. o .2 v ∙ sym (made-record query out fine long);
     }
   where
     o : (((j : ℕ) × (lookUpOf query catalogue out ≡ Found j)) ⊎ (lookUpOf query catalogue out ≡ Made))
-        × (servedIn (lookUpOf query catalogue out) query catalogue out ≡ recordOf query)
-    o = outcome query catalogue out fine made long
+        × (body (servedIn who (lookUpOf query catalogue out) query catalogue out) ≡ layout query (sequenceOf query))
+        × ((who ≡ editor → ⊥) → servedIn who (lookUpOf query catalogue out) query catalogue out ≡ recordOf query)
+    o = outcome query catalogue who out fine made long
+
+    written-body : body (filled (synthesizeOf query out) (recordOf query) out) ≡ layout query (sequenceOf query)
+    written-body = ap body (made-record query out fine long) ∙ made-body query (size query fine)

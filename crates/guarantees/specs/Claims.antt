@@ -28,7 +28,7 @@ use Rattle.sequence.specs.Trace.{recordsOf, traceOf, sheetFilled}
 use Rattle.candidate.specs.declared.Verdict.the-variants.{Yes, No}
 use Rattle.candidate.specs.Rules.{aCells, bCells, flawOf, verifyOf, generateOf, generatedIn}
 use Rattle.catalogue.specs.declared.LookedUp.the-variants.{Found, Made}
-use Rattle.catalogue.specs.Rules.{recordBytes, aPlace, bPlace, lengthCell, recordOf, synthesizeOf, recordAt, records, lookUpOf, servedIn}
+use Rattle.catalogue.specs.Rules.{recordBytes, body, aPlace, bPlace, lengthCell, recordOf, synthesizeOf, recordAt, records, lookUpOf, editor, servedIn}
 use Rattle.guarantees.specs.Calls.{Call, push, afterAll, taken}
 
 -- What a register and a profile of the terms ts modulo m must show: r and o are their replies, and a, b and cells the lent buffers at exit.
@@ -105,12 +105,12 @@ TheWorking =
 
 -- ---- records made and served
 
--- a record that was made by this software: what a making that is not refused writes for some query
+-- a record that was made by this software: but for its accession number, what a making that is not refused writes for some query
 pub record MadeRecord (entry : List ℕ) : Type 0 where
   pub query : List ℕ
   pub out : List ℕ
   pub made : synthesizeOf query out ≡ Done
-  pub same : entry ≡ filled (synthesizeOf query out) (recordOf query) out
+  pub same : body entry ≡ body (filled (synthesizeOf query out) (recordOf query) out)
 
 -- a catalogue of such records, end to end; the empty one is such
 pub record MadeCatalogue (catalogue : List ℕ) : Type 0 where
@@ -129,9 +129,9 @@ pub record AgreesWith (m : ℕ) (calls : List Call) (a b entry : List ℕ) : Typ
   pub b-same :
       written (reportOf (afterAll (openOf m .sequence) calls) a b) (bBuffer (afterAll (openOf m .sequence) calls)) b ≡ take bBytes (drop bPlace entry)
 
--- For a query that meets no refusal of its own and a catalogue made by this software: making and serving are not refused, and the
--- record made, the record served and the register after any calls that take the query's terms are the same.
-pub record Same (query catalogue out : List ℕ) : Type 0 where
+-- For a query that meets no refusal of its own and a catalogue made by this software, whoever asks: making and serving are not refused,
+-- and the record made, the record served and the register after any calls that take the query's terms are the same.
+pub record Same (query catalogue : List ℕ) (who : ℕ) (out : List ℕ) : Type 0 where
   -- there are such calls: pushing the terms one by one
   pub pushed : taken (cellAt query 0) (map push (termsOf query)) ≡ termsOf query
   pub made : synthesizeOf query out ≡ Done
@@ -141,11 +141,16 @@ pub record Same (query catalogue out : List ℕ) : Type 0 where
       → AgreesWith (cellAt query 0) calls a b (filled (synthesizeOf query out) (recordOf query) out)
   pub record-served :
       (calls : List Call) (a b : List ℕ) → taken (cellAt query 0) calls ≡ termsOf query → length a ≡ aBytes → length b ≡ bBytes
-      → AgreesWith (cellAt query 0) calls a b (servedIn (lookUpOf query catalogue out) query catalogue out)
+      → AgreesWith (cellAt query 0) calls a b (servedIn who (lookUpOf query catalogue out) query catalogue out)
+  -- the record served is the record made, but for its accession number; to a visitor in every byte
+  pub body-served : body (servedIn who (lookUpOf query catalogue out) query catalogue out) ≡ body (filled (synthesizeOf query out) (recordOf query) out)
+  pub visitor-served :
+      (who ≡ editor → ⊥) → servedIn who (lookUpOf query catalogue out) query catalogue out ≡ filled (synthesizeOf query out) (recordOf query) out
 
 unfoldable pub MadeServedReported : Type 0
 MadeServedReported =
-    (query catalogue out : List ℕ) → checkOf query ≡ Done → MadeCatalogue catalogue → length out ≡ recordBytes → Same query catalogue out
+    (query catalogue : List ℕ) (who : ℕ) (out : List ℕ) → checkOf query ≡ Done → MadeCatalogue catalogue → length out ≡ recordBytes
+    → Same query catalogue who out
 
 -- ---- testing and running
 

@@ -1,5 +1,6 @@
 pub mod Calls
 pub mod Claims
+pub mod Visitors
 pub mod Cases
 pub mod Numbers
 pub mod Refusals

@@ -66,21 +66,22 @@ EveryOrder =
     Ordered m (taken m calls) (reportOf s a b) (aAfter s a b)
 
 -- The line of a query, with a register after calls that take its terms, lent buffers a and b, and its record made and served.
-pub record Listed (query catalogue out : List ℕ) (s : Sequence) (a b : List ℕ) : Type 0 where
+pub record Listed (query catalogue : List ℕ) (who : ℕ) (out : List ℕ) (s : Sequence) (a b : List ℕ) : Type 0 where
   -- it is the line of what is reported: the length replied as the start, and of the coefficients that are written those up to the order
   pub ordered : Ordered (cellAt query 0) (termsOf query) (reportOf s a b) (aAfter s a b)
   pub line : queryLine query ≡ registerLine (cellAt query 0) (cellAt query 1) (ordered .start) (aCells (aAfter s a b))
   pub reported : queryLine query ≡ reportedLine s (reportOf s a b) (aAfter s a b)
-  -- it is the line of the record made, and of the record served
+  -- it is the line of the record made, and of the record served to who asks
   pub made : queryLine query ≡ recordLine (filled (synthesizeOf query out) (recordOf query) out)
-  pub served : queryLine query ≡ recordLine (servedIn (lookUpOf query catalogue out) query catalogue out)
+  pub served : queryLine query ≡ recordLine (servedIn who (lookUpOf query catalogue out) query catalogue out)
 
 -- For a query that meets no refusal of its own, a catalogue made by this software, and any calls that take the query's terms.
 unfoldable pub TheListing : Type 0
 TheListing =
-    (query catalogue out : List ℕ) → checkOf query ≡ Done → MadeCatalogue catalogue → length out ≡ recordBytes → (calls : List Call) (a b : List ℕ)
+    (query catalogue : List ℕ) (who : ℕ) (out : List ℕ) → checkOf query ≡ Done → MadeCatalogue catalogue → length out ≡ recordBytes
+    → (calls : List Call) (a b : List ℕ)
     → taken (cellAt query 0) calls ≡ termsOf query → length a ≡ aBytes → length b ≡ bBytes
-    → Listed query catalogue out (afterAll (openOf (cellAt query 0) .sequence) calls) a b
+    → Listed query catalogue who out (afterAll (openOf (cellAt query 0) .sequence) calls) a b
 
 -- A number is printed in digits, one or more, that a typed line may have for it, with no zero in front of other digits.
 pub record NumeralOf (n : ℕ) (text : List ℕ) : Type 0 where

@@ -4,7 +4,7 @@
 use mathlib.Core.Path.{_≡_}
 use mathlib.Core.List.{List, [], _∷_, _++_}
 use Prim.Native.Nat.{ℕ, _+_, _*_, _-_}
-use lib.ListN.{length, replicate}
+use lib.ListN.{length, drop, replicate}
 use Rattle.lists.specs.Table.{at, tabulate}
 use Rattle.cells.specs.Cell.{bytesOf}
 use Rattle.steps.specs.declared.StepRecord.{StepRecord}
@@ -18,7 +18,7 @@ use Rattle.sequence.specs.Report.{reportAnswer, profileAnswer}
 use Rattle.sequence.specs.Trace.{recordsOf, traceOf, traceAnswer, sheetFilled}
 use Rattle.column.specs.Rules.{pushAllOf, pushAllAnswer}
 use Rattle.candidate.specs.Rules.{verifyAnswer, generateAnswer}
-use Rattle.catalogue.specs.Rules.{recordBytes, recordOf, synthesizeAnswer, lookUpAnswer}
+use Rattle.catalogue.specs.Rules.{recordBytes, bodyBytes, body, recordOf, synthesizeAnswer, lookUpOf, lookUpAnswer, servedIn}
 use Rattle.diverthrone.specs.Codes.{codeOf}
 use Rattle.guarantees.specs.Cases.{after, zeros, aOf, bOf}
 
@@ -46,9 +46,16 @@ synthesizeTo query = synthesizeAnswer query out
 abbrev pub generateTo : ℕ → List ℕ → ℕ → ℕ → Answer
 generateTo m a l n = generateAnswer m (aOf a) (bOf []) l (zeros n)
 
--- to the query looked up in a catalogue of one record with this register
+-- to the query looked up in a catalogue of one record with this register and accession number 7
 abbrev pub lookUpTo : List ℕ → List ℕ → ℕ → Answer
-lookUpTo a b l = lookUpAnswer nine (nine ++ (bytesOf (l ∷ []) ++ (aOf a ++ bOf b))) out
+lookUpTo a b l = lookUpAnswer nine (nine ++ (bytesOf (l ∷ []) ++ (aOf a ++ (bOf b ++ (7 ∷ 0 ∷ []))))) out
+
+-- the two records with accession numbers 258 and 65,280, and the last two bytes that who asks for a query is served then
+abbrev pub numbered : List ℕ
+numbered = body (recordOf nine) ++ ((2 ∷ 1 ∷ []) ++ (body (recordOf four) ++ (0 ∷ 255 ∷ [])))
+
+abbrev pub shownTo : ℕ → List ℕ → List ℕ
+shownTo who query = drop bodyBytes (servedIn who (lookUpOf query numbered out) query numbered out)
 
 -- a query of four terms, of which those at 1 and 3 are not below the modulus
 abbrev pub wrongAt1And3 : List ℕ
@@ -119,6 +126,16 @@ pub record Numbers : Type 0 where
   pub made-none-found : codeOf (lookUpAnswer nine [] out) ≡ 0
   pub found-at-0 : codeOf (lookUpAnswer nine two out) ≡ 256 * 1
   pub found-at-1 : codeOf (lookUpAnswer four two out) ≡ 256 * 2
+  pub found-numbered : codeOf (lookUpAnswer four numbered out) ≡ 256 * 2
+  pub shown-1 : shownTo 1 nine ≡ 2 ∷ 1 ∷ []
+  pub shown-1-high : shownTo 1 four ≡ 0 ∷ 255 ∷ []
+  pub shown-0 : shownTo 0 nine ≡ 0 ∷ 0 ∷ []
+  pub shown-2 : shownTo 2 nine ≡ 0 ∷ 0 ∷ []
+  pub shown-2-high : shownTo 2 four ≡ 0 ∷ 0 ∷ []
+  pub shown-257 : shownTo 257 nine ≡ 0 ∷ 0 ∷ []
+  pub shown-65537 : shownTo 65537 nine ≡ 0 ∷ 0 ∷ []
+  pub shown-large : shownTo 4294967297 nine ≡ 0 ∷ 0 ∷ []
+  pub made-number : shownTo 1 (queryOf 5 []) ≡ 0 ∷ 0 ∷ []
   pub placed-code-0 : codeOf (synthesizeTo (queryOf 5 (5 ∷ []))) ≡ 3
   pub placed-code-1 : codeOf (lookUpAnswer wrongAt1And3 two out) ≡ 3 + 256 * 1
   pub placed-code-127 : codeOf (synthesizeTo (queryOf 5 (replicate 127 4 ++ (5 ∷ [])))) ≡ 3 + 256 * 127
@@ -137,6 +154,8 @@ pub record Numbers : Type 0 where
   pub refused-3-column-first : columnTo (openOf 9 .sequence) (9 ∷ 9 ∷ []) ≡ refusedAt 3 0
   pub refused-4 : synthesizeTo (counted 5 0 (1 ∷ [])) ≡ refused 4
   pub refused-5 : synthesizeTo [] ≡ refused 5
+  pub refused-5-record : synthesizeAnswer nine (zeros 776) ≡ refused 5
+  pub refused-5-served : lookUpAnswer nine two (zeros 776) ≡ refused 5
   pub refused-5-odd : generateTo 9 (1 ∷ []) 0 1 ≡ refused 5
   pub refused-5-column : pushAllAnswer (openOf 9 .sequence) (6 ∷ 0 ∷ 3 ∷ []) ≡ refused 5
   pub refused-5-sheet : traceTo (after 9 (6 ∷ 3 ∷ 1 ∷ 5 ∷ 6 ∷ [])) 9 ≡ refused 5
@@ -157,6 +176,7 @@ pub record Numbers : Type 0 where
   pub refused-22 : pushAnswer (forged 2 128 []) 0 ≡ refused 22
   pub refused-22-column : columnTo (openOf 2 .sequence) (replicate 129 1) ≡ refused 22
   pub refused-23 : lookUpAnswer nine (0 ∷ []) out ≡ refused 23
+  pub refused-23-body : lookUpAnswer nine (body (recordOf nine)) out ≡ refused 23
   pub refused-24-long : lookUpTo (1 ∷ []) [] 129 ≡ refused 24
   pub refused-24-coefficient : lookUpTo (1 ∷ 4 ∷ 9 ∷ 1 ∷ []) (6 ∷ 0 ∷ 1 ∷ []) 3 ≡ refused 24
   pub refused-24-lead : lookUpTo (2 ∷ 4 ∷ 7 ∷ 1 ∷ []) (6 ∷ 0 ∷ 1 ∷ []) 3 ≡ refused 24

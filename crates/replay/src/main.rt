@@ -336,14 +336,14 @@ fn synthesize(c: Call) -> bool {
     synthesize_in(&mut query[0..x], &mut entry[0..y])
 }
 
-fn look_up_in(query: &mut [u8], records: &mut [u8], entry: &mut [u8]) -> bool {
+fn look_up_in(query: &mut [u8], records: &mut [u8], who: u32, entry: &mut [u8]) -> bool {
     if is_cut(query) {
         return false;
     }
     if is_cut(records) {
         return false;
     }
-    let u = catalogue::look_up(query, records, entry);
+    let u = catalogue::look_up(query, records, who as u64, entry);
     printing::text(b"look_up ");
     match u {
         LookedUp::Found(i) => {
@@ -365,7 +365,12 @@ fn look_up(c: Call) -> bool {
     let mut query = [0u8; 65536];
     let mut records = [0u8; 65536];
     let mut entry = [fill; 65536];
-    look_up_in(&mut query[0..x], &mut records[0..y], &mut entry[0..z])
+    look_up_in(
+        &mut query[0..x],
+        &mut records[0..y],
+        c.number,
+        &mut entry[0..z],
+    )
 }
 
 // A sheet is not lent: its records are those of the log, and the room only counts them.

@@ -41,7 +41,7 @@ returns-2 c =
     let m = c .before .before .before .before .before .f in
     let told = c .before .before .serve .ensures in (
       simp (eq-eqb _ _ (f .before .if1 .left), ← f .find .ensures, m .given .1, ← s .pre .1) (told .0),
-      is-served (s .args .s) (s .args .query .now) (s .args .catalogue .now) (s .args .out .now) (m .given .0 .0) (told .0) (told .1),
+      is-served (s .args .s) (s .args .query .now) (s .args .catalogue .now) (s .args .who) (s .args .out .now) (m .given .0 .0) (told .0) (told .1),
     )
 
 same-length-2 : tie.Need-same-length-2

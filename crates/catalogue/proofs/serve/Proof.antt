@@ -1,4 +1,4 @@
--- `catalogue::serve` meets its contract: the record is copied where its register passes.
+-- `catalogue::serve` meets its contract: the record is shown where its register passes.
 -- Assumes nothing.
 use Prim.Native.Nat.{_*_}
 use borrow.Author.Needs.{needs}
@@ -25,8 +25,8 @@ part-entry-end c = search needs
 is-good-requires : tie.Need-is-good-requires
 is-good-requires c κs = search needs
 
-copy-requires : tie.Need-copy-requires
-copy-requires c κs = search needs
+show-requires : tie.Need-show-requires
+show-requires c κs = search needs
 
 same-length : tie.Need-same-length
 same-length c = search needs
@@ -36,7 +36,7 @@ returns c =
     let g = c .before .before .before .before in
     let s = g .before .before .before .before .before .args in
     let cut = cut-record (s .catalogue .now) (s .i * recordBytes) in
-    (simp (← cut, ← g .before .is-good .ensures, g .if1 .taken), simp (← cut, ← g .before .is-good .ensures, g .if1 .taken) (c .before .before .copy .ensures))
+    (simp (← cut, ← g .before .is-good .ensures, g .if1 .taken), simp (← cut, ← g .before .is-good .ensures, g .if1 .taken) (c .before .before .show .ensures))
 
 returns-2 : tie.Need-returns-2
 returns-2 c =
@@ -54,7 +54,7 @@ serve-spec =
     part-entry-start
     part-entry-end
     is-good-requires
-    copy-requires
+    show-requires
     same-length
     returns
     returns-2)

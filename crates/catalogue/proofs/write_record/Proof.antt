@@ -1,86 +1,63 @@
--- `catalogue::write_record` meets its contract: the three calls fill the record, the last through the part from byte 262 on.
+-- `catalogue::write_record` meets its contract: the body is filled, then the number.
 -- Assumes nothing.
-use mathlib.Core.Path.{sym, _∙_}
-use native.Mathlib.Omega.{arith}
-use lib.Seq.{length-take-le}
+use mathlib.Core.Path.{ap₂, _∙_}
+use mathlib.Core.List.{List, _++_}
+use Prim.Native.Nat.{ℕ}
 use borrow.Author.Needs.{needs}
-use Rattle.sequence.specs.Limits.{queryBytes}
-use Rattle.sequence.proofs.Report.{long-a, long-b}
+use borrow.Rule.Slice.PartMut.{putMid, postOf}
+use Rattle.catalogue.specs.Rules.{bodyBytes, noNumber, layout}
+use Rattle.catalogue.proofs.Places.{layout-long}
 use Rattle.catalogue.proofs.Laws.{is-record}
 use Rattle.catalogue.proofs.write_record.Statement.{statement}
 use Rattle.catalogue.proofs.write_record.Tie as tie
 
-solve-requires : tie.Need-solve-requires
-solve-requires c κs = search needs
+sub-write-body : tie.Need-sub-write-body
+sub-write-body c = search needs
 
-sub-copy : tie.Need-sub-copy
-sub-copy c = search needs
+part-write-body-start : tie.Need-part-write-body-start
+part-write-body-start c = search needs
 
-part-copy-start : tie.Need-part-copy-start
-part-copy-start c = search needs
+part-write-body-end : tie.Need-part-write-body-end
+part-write-body-end c = search needs
 
-part-copy-end : tie.Need-part-copy-end
-part-copy-end c = search needs
+write-body-requires : tie.Need-write-body-requires
+write-body-requires c κs = search needs
 
-copy-requires : tie.Need-copy-requires
-copy-requires c κs =
-    let s = c .before .before .before .before in
-    s .pre .0 ∙ sym (length-take-le queryBytes (s .args .out .now) (omega (arith, s .pre .2)))
+sub-hide : tie.Need-sub-hide
+sub-hide c = search needs
 
-sub-put : tie.Need-sub-put
-sub-put c = search needs
+part-hide-start : tie.Need-part-hide-start
+part-hide-start c = search needs
 
-part-put-start : tie.Need-part-put-start
-part-put-start c = search needs
+part-hide-end : tie.Need-part-hide-end
+part-hide-end c = search needs
 
-part-put-end : tie.Need-part-put-end
-part-put-end c = search needs
-
-put-requires : tie.Need-put-requires
-put-requires c κs = search needs
-
-sub-write-register : tie.Need-sub-write-register
-sub-write-register c = search needs
-
-part-write-register-start : tie.Need-part-write-register-start
-part-write-register-start c = search needs
-
-part-write-register-end : tie.Need-part-write-register-end
-part-write-register-end c = search needs
-
-write-register-requires : tie.Need-write-register-requires
-write-register-requires c κs =
-    let x = c .before .before .before .before .before .before .before .before .before .solve in
-    (long-a _ _ (x .ensures), long-b _ _ (x .ensures), search needs)
+hide-requires : tie.Need-hide-requires
+hide-requires c κs = search needs
 
 same-length : tie.Need-same-length
 same-length c = search needs
 
 returns : tie.Need-returns
 returns c =
-    let v = c .before .before .before .before .before .before .before .before .before .before .before .before in
-    let s = v .before .before .before in
-    let copied = c .before .before .before .before .before .before .before .before .before .before .copy in
-    let put = c .before .before .before .before .before .before .put in
-    let written = c .before .before .write-register in
-    is-record (s .args .out .now) _ _ _ _ (s .args .s) (v .solve .result) (s .pre .2) (s .pre .0) (copied .ensures) (put .ensures) (written .ensures) (v .solve .ensures)
+    let s = c .before .before .before .before .before .before .before .before .before .before in
+    let v = s .args in
+    let filled = c .before .before .before .before .before .before .write-body in
+    let hidden = c .before .before .hide in
+    ap₂ (λ (b n : List ℕ). putMid bodyBytes 2 (b ++ postOf 0 bodyBytes (v .out .now)) n) (filled .ensures) (hidden .ensures)
+    ∙ is-record (v .out .now) (layout (v .query .now) (v .s)) noNumber (s .pre .2) (layout-long (v .query .now) (v .s) (s .pre .0))
 
 pub write-record-spec : {M : Type 1} → statement M
 write-record-spec =
     tie.close
     (tie.spec
-    solve-requires
-    sub-copy
-    part-copy-start
-    part-copy-end
-    copy-requires
-    sub-put
-    part-put-start
-    part-put-end
-    put-requires
-    sub-write-register
-    part-write-register-start
-    part-write-register-end
-    write-register-requires
+    sub-write-body
+    part-write-body-start
+    part-write-body-end
+    write-body-requires
+    sub-hide
+    part-hide-start
+    part-hide-end
+    hide-requires
     same-length
     returns)

@@ -49,7 +49,7 @@ returns c =
     let m = c .before .before .before .before in
     let s = m .before .before .before .before .before .args in (
       ap (λ (z : LookedUp). codeOf (lookedUpAnswer z)) (sym (c .enum-told .given .1)) ∙ ap codeOf (m .look-up .ensures .1 .1),
-      m .look-up .ensures .1 .0 ∙ ap (λ (z : LookedUp). servedIn z (s .query .now) (s .catalogue .now) (s .out .now)) (m .look-up .ensures .0),
+      m .look-up .ensures .1 .0 ∙ ap (λ (z : LookedUp). servedIn (s .who) z (s .query .now) (s .catalogue .now) (s .out .now)) (m .look-up .ensures .0),
     )
 
 same-length-2 : tie.Need-same-length-2
@@ -60,7 +60,7 @@ returns-2 c =
     let m = c .before .before .before .before .before in
     let s = m .before .before .before .before .before .args in (
       valued (c .before .t .given .0 .0) ∙ ap (λ (z : LookedUp). codeOf (lookedUpAnswer z)) (sym (c .before .t .given .1)) ∙ ap codeOf (m .look-up .ensures .1 .1),
-      m .look-up .ensures .1 .0 ∙ ap (λ (z : LookedUp). servedIn z (s .query .now) (s .catalogue .now) (s .out .now)) (m .look-up .ensures .0),
+      m .look-up .ensures .1 .0 ∙ ap (λ (z : LookedUp). servedIn (s .who) z (s .query .now) (s .catalogue .now) (s .out .now)) (m .look-up .ensures .0),
     )
 
 same-length-3 : tie.Need-same-length-3
@@ -71,7 +71,7 @@ returns-3 c =
     let m = c .before .before .before .before .before .before in
     let s = m .before .before .before .before .before .args in (
       c .refused .ensures ∙ ap (λ (z : LookedUp). codeOf (lookedUpAnswer z)) (sym (c .before .before .t2 .given .1)) ∙ ap codeOf (m .look-up .ensures .1 .1),
-      m .look-up .ensures .1 .0 ∙ ap (λ (z : LookedUp). servedIn z (s .query .now) (s .catalogue .now) (s .out .now)) (m .look-up .ensures .0),
+      m .look-up .ensures .1 .0 ∙ ap (λ (z : LookedUp). servedIn (s .who) z (s .query .now) (s .catalogue .now) (s .out .now)) (m .look-up .ensures .0),
     )
 
 pub diverthrone-look-up-spec : {M : Type 1} → statement M
