@@ -1,7 +1,10 @@
 -- `catalogue::show_number` meets its contract: the number goes to 1 and to no other.
 -- Assumes nothing.
+use mathlib.Core.Path.{_≡_}
+use native.Mathlib.Omega.{arith}
 use borrow.Author.Needs.{needs}
 use borrow.Author.Tests.{eq-eqb, ne-eqb}
+use Rattle.catalogue.specs.Rules.{editor}
 use Rattle.catalogue.proofs.show_number.Statement.{statement}
 use Rattle.catalogue.proofs.show_number.Tie as tie
 
@@ -12,7 +15,10 @@ same-length : tie.Need-same-length
 same-length c = search needs
 
 returns : tie.Need-returns
-returns c = simp (eq-eqb _ _ (c .before .before .before .before .if1 .taken)) (c .before .before .copy .ensures)
+returns c =
+    let who = c .before .before .before .before .before .before .before .args .who in
+    let one : who ≡ editor = omega (arith, c .before .before .before .before .if1 .taken) in
+    simp (eq-eqb who editor one) (c .before .before .copy .ensures)
 
 hide-requires : tie.Need-hide-requires
 hide-requires c κs = search needs
