@@ -1,5 +1,5 @@
-//! The calls of document 01, and of requests A1 to A3 and A5 in 02, on plain values and
-//! byte buffers.
+//! The calls of document 01, and of requests A1 to A3, A5 and A7 in 02, on plain values
+//! and byte buffers.
 //!
 //! "Order where several apply: 5, 21, 1, 2, 22, 3, 4, 6, 23, 24. Each call gives
 //! only those that concern what it is handed." 25 comes right before 6, 26 right
@@ -297,13 +297,15 @@ fn record_of(slip: &[u8], sequence: &Sequence) -> Vec<u8> {
     record_with(slip, &register)
 }
 
-/// A slip, a length and the cells of a and b as a record.
+/// A slip, a length and the cells of a and b as a record just made, which has the
+/// accession number 0.
 pub fn record_with(slip: &[u8], register: &Register) -> Vec<u8> {
     let mut record = vec![0; RECORD_BYTES];
     record[..SLIP_BYTES].copy_from_slice(slip);
     write_cells(&mut record[RECORD_LENGTH_AT..RECORD_A_AT], &[register.length as u64]);
     write_cells(&mut record[RECORD_A_AT..RECORD_B_AT], &register.a);
-    write_cells(&mut record[RECORD_B_AT..], &register.b);
+    write_cells(&mut record[RECORD_B_AT..RECORD_NUMBER_AT], &register.b);
+    write_cells(&mut record[RECORD_NUMBER_AT..], &[0]);
     record
 }
 
@@ -315,10 +317,11 @@ pub fn synthesize(slip: &[u8], record: &mut [u8]) -> Result<(), Refusal> {
     Ok(())
 }
 
-/// Serves a slip from a shelf: 5 (slip, record), 1 to 4, 23, 24. "Serving looks
-/// for the first record whose first 260 bytes equal the slip's"; the first match
-/// alone decides.
-pub fn look_up(slip: &[u8], shelf: &[u8], record: &mut [u8]) -> Result<Served, Refusal> {
+/// Serves a slip from a shelf to `who`: 5 (slip, record), 1 to 4, 23, 24. "Serving looks
+/// for the first record whose first 260 bytes equal the slip's"; the first match alone
+/// decides. 02, A7: "Matching and the test behind 24 ignore" the accession number, and
+/// "the desk takes every shelf as one of the new size".
+pub fn look_up(slip: &[u8], shelf: &[u8], who: u64, record: &mut [u8]) -> Result<Served, Refusal> {
     demand(slip.len() == SLIP_BYTES && record.len() == RECORD_BYTES, Refusal::Buffer)?;
     let sequence = check_slip(slip)?;
     demand(shelf.len() % RECORD_BYTES == 0, Refusal::Shelf)?;
@@ -331,17 +334,27 @@ pub fn look_up(slip: &[u8], shelf: &[u8], record: &mut [u8]) -> Result<Served, R
         Some(index) => {
             let found = &shelf[index * RECORD_BYTES..][..RECORD_BYTES];
             check_record(&sequence, found)?;
-            record.copy_from_slice(found);
+            record.copy_from_slice(&shown(found, who));
             Ok(Served::Found(index))
         }
     }
+}
+
+/// A record as `who` sees it. 02, A7: "An editor is served all of it, a visitor sees 0
+/// there." The whole of `who` is compared.
+fn shown(found: &[u8], who: u64) -> Vec<u8> {
+    let mut record = found.to_vec();
+    if who != EDITOR {
+        write_cells(&mut record[RECORD_NUMBER_AT..], &[0]);
+    }
+    record
 }
 
 /// 24: "the record found is a bad claim (as in 6) or its test against the slip
 /// says no". 02, A2: "24 covers all three", 25, 6 and 26.
 fn check_record(sequence: &Sequence, record: &[u8]) -> Result<(), Refusal> {
     let l = cells(&record[RECORD_LENGTH_AT..RECORD_A_AT])[0];
-    let (a, b) = (&record[RECORD_A_AT..RECORD_B_AT], &record[RECORD_B_AT..]);
+    let (a, b) = (&record[RECORD_A_AT..RECORD_B_AT], &record[RECORD_B_AT..RECORD_NUMBER_AT]);
     let claim = check_claim(sequence.modulus, a, b, l).map_err(|_| Refusal::Record)?;
     demand(verdict(sequence, &claim) == Verdict::Yes, Refusal::Record)
 }

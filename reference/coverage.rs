@@ -1,10 +1,11 @@
 //! What the random slips, scripts and typed lines meet: every refusal of every call, the
-//! places, the kinds of bad claims, of lines, of columns, and how the orders stand to the
-//! starts. The seeds are those that tests/expectations.sh uses.
+//! places, the kinds of bad claims, of lines, of columns, of servings, and how the orders
+//! stand to the starts. The seeds are those that tests/expectations.sh uses.
 
 use crate::ask::{self, ask, LINE_LIMIT};
 use crate::calls::*;
 use crate::cases::{told, Told};
+use crate::catalogues::{catalogues, rounds};
 use crate::checks::Group;
 use crate::faults::{faults, offending, Fault};
 use crate::limits::*;
@@ -13,6 +14,7 @@ use crate::listing::listing;
 use crate::scenarios;
 use crate::script::{line, reading_bytes, replay, Call, Operation};
 use crate::sequences;
+use crate::servings;
 use crate::starts::{self, read_back};
 use crate::typed::typed;
 use crate::working::working;
@@ -40,9 +42,9 @@ const REFUSALS: [(&str, &[u32]); 13] = [
 ];
 
 /// How often each thing was met, by name.
-type Tally<T> = BTreeMap<T, usize>;
+pub type Tally<T> = BTreeMap<T, usize>;
 
-fn count<T: Ord>(tally: &mut Tally<T>, thing: T) {
+pub fn count<T: Ord>(tally: &mut Tally<T>, thing: T) {
     *tally.entry(thing).or_insert(0) += 1;
 }
 
@@ -51,7 +53,7 @@ pub fn met(group: &mut Group) {
     let script = [
         scenarios::calls(11, 700),
         scenarios::candidates(12, 1000),
-        scenarios::catalogues(14, 300),
+        catalogues(14, 300),
         linecalls(15, 2000),
     ]
     .concat();
@@ -68,6 +70,9 @@ pub fn met(group: &mut Group) {
     lines_met(group, &script, &input);
     longest_met(group, &input);
     columns_met(group, &script);
+    servings::met(group, &script);
+    // Those by hand have each kind; without them it takes more.
+    servings::met(group, &rounds(14, 2000));
 }
 
 /// The text with the name of its command before each line.
@@ -75,7 +80,7 @@ fn named(command: &str, text: &str) -> String {
     text.lines().map(|line| format!("{command} {line}\n")).collect()
 }
 
-fn often(group: &mut Group, times: usize, words: impl Fn() -> String) {
+pub fn often(group: &mut Group, times: usize, words: impl Fn() -> String) {
     group.check(times >= LEAST, || format!("{}: {times} times", words()));
 }
 
@@ -296,7 +301,8 @@ fn claim_of(call: &Call) -> Option<Looked> {
             let m = check_slip(&first).ok()?.modulus;
             let found = second.chunks(RECORD_BYTES).find(|record| record[..SLIP_BYTES] == first)?;
             let l = cells(&found[RECORD_LENGTH_AT..RECORD_A_AT])[0];
-            let (a, b) = (found[RECORD_A_AT..RECORD_B_AT].to_vec(), found[RECORD_B_AT..].to_vec());
+            let a = found[RECORD_A_AT..RECORD_B_AT].to_vec();
+            let b = found[RECORD_B_AT..RECORD_NUMBER_AT].to_vec();
             Some(Looked { slip: Some(first), m, a, b, l })
         }
         _ => None,
@@ -399,7 +405,7 @@ fn longest_met(group: &mut Group, input: &[u8]) {
     group.check(!input.ends_with(b"\n"), || String::from("a last line without an end mark"));
 }
 
-type Kinds = Vec<(&'static str, bool)>;
+pub type Kinds = Vec<(&'static str, bool)>;
 
 fn kinds_of_line(line: &[u8], refused: Option<Told>) -> Kinds {
     let text = String::from_utf8_lossy(line);

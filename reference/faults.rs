@@ -74,7 +74,10 @@ fn check_passed_on(group: &mut Group, slip: &[u8], place: usize) {
     let refusal = Refusal::Term(place);
     let mut record = [0x5a; RECORD_BYTES];
     group.check(synthesize(slip, &mut record) == Err(refusal), words);
-    group.check(look_up(slip, &[slip, &[0; 516]].concat(), &mut record) == Err(refusal), words);
+    for who in [0, 1] {
+        let shelf = [slip, &[0; RECORD_BYTES - SLIP_BYTES]].concat();
+        group.check(look_up(slip, &shelf, who, &mut record) == Err(refusal), words);
+    }
     group.check(verify(slip, &[0; A_BYTES], &[9; B_BYTES], 129) == Err(refusal), words);
     group.check(record == [0x5a; RECORD_BYTES], words);
     let text = format!("{HEADER}\nrefused 3 at {place}\n");
@@ -176,19 +179,25 @@ fn run_nothing(claim: &Candidate, a: &[u8]) -> Result<(), Refusal> {
 }
 
 /// A testing gives the slip's refusal before that of the claim. A serving gives 24 for all
-/// that is wrong with the claim, and for a test that says no.
+/// that is wrong with the claim, and for a test that says no, to editors and to visitors,
+/// whatever the accession number is.
 fn check_tested(group: &mut Group, claim: &Candidate, outcome: Result<(), Refusal>) {
     let slip = check_slip(&claim.slip).map(|_| ());
     let testing = verify(&claim.slip, &claim.a, &claim.b, claim.l);
-    let mut record = [0x5a; RECORD_BYTES];
-    let serving = look_up(&claim.slip, &claim.record(), &mut record);
-    let words = || format!("{testing:?}, {serving:?} for {slip:?}, {outcome:?}");
+    let words = || format!("{testing:?} for {slip:?}, {outcome:?}");
     group.check(testing.map(|_| ()) == slip.and(outcome), words);
     let expected = match (slip, testing) {
         (Err(refusal), _) => Err(refusal),
         (_, Ok(Verdict::Yes)) => Ok(Served::Found(0)),
         _ => Err(Refusal::Record),
     };
-    group.check(serving == expected, words);
-    group.check(serving.is_ok() || record == [0x5a; RECORD_BYTES], words);
+    for (who, number, shown) in [(1, 0, 0), (1, 0xf00f, 0xf00f), (0, 0xf00f, 0)] {
+        let lent = vec![0x5a; RECORD_BYTES];
+        let mut record = lent.clone();
+        let serving = look_up(&claim.slip, &claim.record(number), who, &mut record);
+        let told = || format!("{serving:?} for {who}, {}", words());
+        group.check(serving == expected, told);
+        let filled = if expected.is_ok() { claim.record(shown) } else { lent };
+        group.check(record == filled, told);
+    }
 }

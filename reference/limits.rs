@@ -1,4 +1,4 @@
-//! The limits and sizes of document 01, each in one place.
+//! The limits and sizes of document 01 and of request A7 in 02, each in one place.
 
 /// "m from 2 to 4,095": the largest legal modulus. The arithmetic is wide
 /// enough for any value up to 65,535.
@@ -22,11 +22,16 @@ pub const PROFILE_BYTES: usize = PROFILE_CELLS * CELL_BYTES;
 pub const SLIP_BYTES: usize = 260;
 
 /// "A record is 776 bytes: the slip (0 to 259), length (260), a (262 to 519),
-/// b (520 to 775)."
-pub const RECORD_BYTES: usize = 776;
+/// b (520 to 775)." 02, A7: "A record grows by two bytes to 778, the last two an
+/// accession number"; so its place is where the record ended before.
+pub const RECORD_BYTES: usize = 778;
 pub const RECORD_LENGTH_AT: usize = 260;
 pub const RECORD_A_AT: usize = 262;
 pub const RECORD_B_AT: usize = 520;
+pub const RECORD_NUMBER_AT: usize = 776;
+
+/// 02, A7: "Serving is told 1 for an editor; any other number means a visitor."
+pub const EDITOR: u64 = 1;
 
 /// The step records of the longest sheet there can be: n times the sum of the e, and
 /// that sum is at most 15, because 2^16 is above 65,535.

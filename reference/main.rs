@@ -5,12 +5,15 @@ mod apply;
 mod ask;
 mod calls;
 mod cases;
+mod catalogues;
 mod checks;
 mod columncases;
 mod columnchecks;
 mod columns;
 mod compact;
 mod coverage;
+mod donorcases;
+mod donorchecks;
 mod faults;
 mod join;
 mod limits;
@@ -28,6 +31,7 @@ mod scenarios;
 mod script;
 mod selftest;
 mod sequences;
+mod servings;
 mod sheets;
 mod starts;
 mod steps;
@@ -69,7 +73,7 @@ fn main() -> ExitCode {
         ["slips", seed, count] => generated(seed, count, sequences::slips),
         ["calls", seed, count] => generated(seed, count, scenarios::calls),
         ["candidates", seed, count] => generated(seed, count, scenarios::candidates),
-        ["catalogues", seed, count] => generated(seed, count, scenarios::catalogues),
+        ["catalogues", seed, count] => generated(seed, count, catalogues::catalogues),
         ["typed", seed, count] => generated(seed, count, typed::typed),
         ["linecalls", seed, count] => generated(seed, count, linecalls::linecalls),
         ["selftest"] => ExitCode::from(u8::from(!selftest::selftest())),

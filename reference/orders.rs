@@ -150,23 +150,28 @@ fn orders_of_making(group: &mut Group) {
 }
 
 /// The record found has each kind of bad claim in turn, and at last one whose test says
-/// no. It is on the shelf also where the slip itself is refused.
+/// no. It is on the shelf also where the slip itself is refused. Editors and visitors meet
+/// the same, whatever the accession number is.
 fn orders_of_serving(group: &mut Group) {
     let order = [&[bare(5)][..], &OF_SLIP, &[bare(23), bare(24)]].concat();
+    let wide = (1 << 32) + 1;
+    let asked = [(1, [0, 0]), (1, [9, 1]), (0, [9, 1]), (2, [1, 0]), (257, [0, 1]), (wide, [1, 0])];
     for (short, kind) in (0..2).flat_map(|short| [25, 6, 26, 0].map(|kind| (short, kind))) {
-        every_set(group, "serving", &order, |with| {
-            let slip = faulty_slip(with);
-            let (mut a, b, l) = faulty_claim(&|number| with(24) && number == kind);
-            if with(24) && kind == 0 {
-                set_cell(&mut a, 3, 2);
-            }
-            let mut shelf = [&slip[..], &(l as u16).to_le_bytes(), &a, &b].concat();
-            shelf.truncate(shortened(RECORD_BYTES, with(23)));
-            let less = |buffer: usize| usize::from(with(5) && buffer == short);
-            let mut record = vec![7; RECORD_BYTES - less(1)];
-            let outcome = look_up(&slip[less(0)..], &shelf, &mut record);
-            kept(outcome, record.iter().all(|&byte| byte == 7))
-        });
+        for (who, number) in asked {
+            every_set(group, "serving", &order, |with| {
+                let slip = faulty_slip(with);
+                let (mut a, b, l) = faulty_claim(&|number| with(24) && number == kind);
+                if with(24) && kind == 0 {
+                    set_cell(&mut a, 3, 2);
+                }
+                let mut shelf = [&slip[..], &(l as u16).to_le_bytes(), &a, &b, &number].concat();
+                shelf.truncate(shortened(RECORD_BYTES, with(23)));
+                let less = |buffer: usize| usize::from(with(5) && buffer == short);
+                let mut record = vec![7; RECORD_BYTES - less(1)];
+                let outcome = look_up(&slip[less(0)..], &shelf, who, &mut record);
+                kept(outcome, record.iter().all(|&byte| byte == 7))
+            });
+        }
     }
 }
 
@@ -340,8 +345,10 @@ fn check_wrong_slip(group: &mut Group, slip: &[u8], told_for_it: Told, words: im
     let expected = Some(told_for_it);
     let making = told(synthesize(slip, &mut record)).err();
     group.check(making == expected, || format!("making {}: {making:?}", words()));
-    let serving = told(look_up(slip, &[0; 3], &mut record)).err();
-    group.check(serving == expected, || format!("serving {}: {serving:?}", words()));
+    for who in [0, 1] {
+        let serving = told(look_up(slip, &[0; 3], who, &mut record)).err();
+        group.check(serving == expected, || format!("serving {}: {serving:?}", words()));
+    }
     let testing = told(verify(slip, &[0; A_BYTES], &[0; B_BYTES], 200)).err();
     group.check(testing == expected, || format!("testing {}: {testing:?}", words()));
     group.check(record == [5; RECORD_BYTES], || String::from("the record stays"));
@@ -632,14 +639,19 @@ fn check_claimed(
         group.check(kept, || format!("running {}: the cells stay", words()));
     }
     let length = l.min(65535) as u16;
-    let shelf = [slip, &length.to_le_bytes(), &a_cells, &b_cells].concat();
-    let mut record = vec![7; RECORD_BYTES];
-    let serving = told(look_up(slip, &shelf, &mut record));
+    let claimed = [slip, &length.to_le_bytes(), &a_cells, &b_cells].concat();
     let good = expected == Ok(Verdict::Yes);
     let served = if good { Ok(Served::Found(0)) } else { Err(bare(24)) };
-    group.check(serving == served, || format!("serving {}: {serving:?}", words()));
-    let right = record == if good { shelf } else { vec![7; RECORD_BYTES] };
-    group.check(right, || format!("serving {}: the record", words()));
+    // A number that could not stand in b changes nothing.
+    for (who, shown) in [(1, [255, 255]), (0, [0, 0])] {
+        let shelf = [&claimed[..], &[255, 255]].concat();
+        let mut record = vec![7; RECORD_BYTES];
+        let serving = told(look_up(slip, &shelf, who, &mut record));
+        group.check(serving == served, || format!("serving {}: {serving:?}", words()));
+        let filled = [&claimed[..], &shown].concat();
+        let right = record == if good { filled } else { vec![7; RECORD_BYTES] };
+        group.check(right, || format!("serving {}: the record", words()));
+    }
 }
 
 /// The first match alone decides, and 23 comes before it.
@@ -656,24 +668,25 @@ fn bad_shelves(group: &mut Group) {
         let shelves = [
             ([&bad[..], &good[..]].concat(), 24),
             ([&other[..], &bad[..]].concat(), 24),
-            ([&bad[..], &good[..775]].concat(), 23),
+            ([&bad[..], &good[..777]].concat(), 23),
+            ([&bad[..], &good[..776]].concat(), 23),
             (vec![0; 1], 23),
         ];
-        for (shelf, number) in shelves {
-            let outcome = told(look_up(&slip, &shelf, &mut record));
-            group.check(outcome == Err(bare(number)), || format!("byte {byte}: {outcome:?}"));
+        for ((shelf, number), who) in shelves.iter().flat_map(|one| [0, 1].map(|who| (one, who))) {
+            let outcome = told(look_up(&slip, shelf, who, &mut record));
+            group.check(outcome == Err(bare(*number)), || format!("byte {byte}: {outcome:?}"));
             group.check(record == [5; RECORD_BYTES], || String::from("the record stays"));
         }
         let shelf = [&other[..], &good[..], &bad[..]].concat();
-        let outcome = told(look_up(&slip, &shelf, &mut record));
+        let outcome = told(look_up(&slip, &shelf, 1, &mut record));
         let found = outcome == Ok(Served::Found(1)) && record[..] == good;
         group.check(found, || format!("good before byte {byte}: {outcome:?}"));
-        let outcome = told(look_up(&longer, &shelf, &mut record));
+        let outcome = told(look_up(&longer, &shelf, 1, &mut record));
         group.check(outcome == Ok(Served::Made), || format!("another count: {outcome:?}"));
         record = [5; RECORD_BYTES];
     }
-    let outcome = told(look_up(&slip, &[0; 1], &mut record[1..]));
+    let outcome = told(look_up(&slip, &[0; 1], 0, &mut record[1..]));
     group.check(outcome == Err(bare(5)), || format!("5 before 23: {outcome:?}"));
-    let outcome = told(look_up(&slip, &[], &mut record));
+    let outcome = told(look_up(&slip, &[], 0, &mut record));
     group.check(outcome == Ok(Served::Made) && record[..] == good, || format!("{outcome:?}"));
 }

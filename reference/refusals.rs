@@ -1,4 +1,4 @@
-//! The refusals of 01 and of 02 as far as A5, with their numbers and the place that
+//! The refusals of 01 and of 02 as far as A7, with their numbers and the place that
 //! a 3, a 27 or a 28 carries.
 
 use std::fmt;
@@ -17,7 +17,8 @@ pub enum Refusal {
     Term(usize),
     /// 4: "a slip holds something other than zero past its count".
     Padding,
-    /// 5: a lent buffer has another length than it must have.
+    /// 5: a lent buffer has another length than it must have; 02, A7: "5 measures
+    /// records by 778".
     Buffer,
     /// 25: "a claim's length is above 128".
     ClaimLength,
@@ -29,7 +30,7 @@ pub enum Refusal {
     Reading,
     /// 22: "a term is offered to a reading that holds 128".
     Full,
-    /// 23: "the shelf's length is not a multiple of 776".
+    /// 23: "the shelf's length is not a multiple of 776"; 02, A7: it "now counts in 778s".
     Shelf,
     /// 24: "the record found is a bad claim .. or its test against the slip says no".
     Record,

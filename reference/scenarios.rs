@@ -1,15 +1,13 @@
-//! Random scripts: lists of calls on a reading, candidates for testing and
-//! running, catalogues for serving and making.
+//! Random scripts: lists of calls on a reading, candidates for testing and running.
 
-use crate::calls::{outputs, record_with, slip_of, zero_reading, Reading};
+use crate::calls::{outputs, slip_of, zero_reading, Reading};
 use crate::columns::{bad_reading, column};
 use crate::join::{register as register_of, sheet_size, Register};
 use crate::limits::*;
 use crate::random::Random;
 use crate::script::{line, Call, Operation};
 use crate::sequences::{
-    any_slip, count, damage, good_slip, modulus, not_below, register, set_cell, structured, terms,
-    uniform,
+    count, damage, good_slip, modulus, not_below, register, set_cell, terms, uniform,
 };
 
 /// Numbers that no modulus, term or length may be; the last ones would pass if
@@ -20,7 +18,7 @@ const WILD_MODULI: [u32; 8] = [0, 1, 4096, 65535, 65536, 65536 + 9, 0x0001_0002,
 const REPORT_LENGTHS: [u16; 3] = [A_BYTES as u16, B_BYTES as u16, 0];
 
 /// A buffer length that is mostly right, else 0, one less or one more.
-fn nearly(random: &mut Random, right: usize) -> u16 {
+pub fn nearly(random: &mut Random, right: usize) -> u16 {
     let length = match random.below(60) {
         0 => 0,
         1 => right.saturating_sub(1),
@@ -35,12 +33,12 @@ fn fill(random: &mut Random) -> u8 {
     random.pick(&[0, 0xff, 0xa5, any])
 }
 
-fn plain(random: &mut Random, operation: Operation, number: u32, lengths: [u16; 3]) -> Call {
+pub fn plain(random: &mut Random, operation: Operation, number: u32, lengths: [u16; 3]) -> Call {
     Call { operation, fill: fill(random), number, lengths, l: 0, payload: Vec::new() }
 }
 
 /// Cuts or stretches the bytes to the length.
-fn fitted(bytes: &[u8], length: u16) -> Vec<u8> {
+pub fn fitted(bytes: &[u8], length: u16) -> Vec<u8> {
     let mut bytes = bytes.to_vec();
     bytes.resize(length as usize, 0);
     bytes
@@ -295,7 +293,7 @@ pub struct Candidate {
 }
 
 impl Candidate {
-    fn of(m: u64, terms: &[u64], register: &Register) -> Candidate {
+    pub fn of(m: u64, terms: &[u64], register: &Register) -> Candidate {
         Candidate {
             m,
             slip: slip_of(m, terms),
@@ -310,9 +308,10 @@ impl Candidate {
         self.l.min(65535) as u16
     }
 
-    /// The slip and the claim as a record.
-    pub fn record(&self) -> Vec<u8> {
-        [&self.slip[..], &self.short_l().to_le_bytes(), &self.a, &self.b].concat()
+    /// The slip and the claim as a record with this accession number.
+    pub fn record(&self, number: u16) -> Vec<u8> {
+        let (l, number) = (self.short_l().to_le_bytes(), number.to_le_bytes());
+        [&self.slip[..], &l, &self.a, &self.b, &number].concat()
     }
 }
 
@@ -394,12 +393,12 @@ fn run_of_its_own(random: &mut Random, m: u64, n: usize) -> (Vec<u64>, Register)
 }
 
 /// A claim may be longer than its degrees.
-fn lengthen(random: &mut Random, register: &mut Register) {
+pub fn lengthen(random: &mut Random, register: &mut Register) {
     register.length = random.between(register.length as u64, TERMS_LIMIT as u64) as usize;
 }
 
 /// "a = 1 with l = n and b = S. It generates, and is seldom least."
-fn trivial(terms: &[u64]) -> Register {
+pub fn trivial(terms: &[u64]) -> Register {
     let mut register = Register { length: terms.len(), a: vec![0; A_CELLS], b: terms.to_vec() };
     register.a[0] = 1;
     register.b.resize(B_CELLS, 0);
@@ -408,7 +407,7 @@ fn trivial(terms: &[u64]) -> Register {
 
 /// Puts faults into a claim, each of 25, 6 and 26 alone and before the next, or changes
 /// it so that it generates other terms.
-fn spoil(random: &mut Random, candidate: &mut Candidate) {
+pub fn spoil(random: &mut Random, candidate: &mut Candidate) {
     match random.below(18) {
         0 => too_long(random, candidate),
         1 => {
@@ -485,7 +484,7 @@ fn past_the_end(random: &mut Random, candidate: &mut Candidate) {
 }
 
 /// Another coefficient that is below m; the claim stays well formed.
-fn change(random: &mut Random, candidate: &mut Candidate) {
+pub fn change(random: &mut Random, candidate: &mut Candidate) {
     if candidate.l > 0 {
         let other = random.below(candidate.m) as u16;
         let place = random.place(candidate.l as usize);
@@ -518,134 +517,4 @@ fn running(random: &mut Random, candidate: Candidate) -> Call {
     call.payload = fitted(&candidate.a, lengths[0]);
     call.payload.extend(fitted(&candidate.b, lengths[1]));
     call
-}
-
-// ---- catalogues for serving and making ----
-
-/// `catalogues SEED COUNT`: that many servings and makings.
-pub fn catalogues(seed: u64, count: u64) -> Vec<u8> {
-    let mut random = Random::new(seed);
-    let mut script = Vec::new();
-    for _ in 0..count {
-        let call =
-            if random.once_in(4) { making(&mut random) } else { serving(&mut random) };
-        script.extend(call.bytes());
-    }
-    script
-}
-
-fn making(random: &mut Random) -> Call {
-    let mut slip = any_slip(random);
-    if random.once_in(2) {
-        damage(random, &mut slip);
-    }
-    let lengths = [nearly(random, SLIP_BYTES), nearly(random, RECORD_BYTES), 0];
-    let mut call = plain(random, Operation::Synthesize, 0, lengths);
-    call.payload = fitted(&slip, lengths[0]);
-    call
-}
-
-fn serving(random: &mut Random) -> Call {
-    let m = modulus(random);
-    let n = count(random).min(if random.once_in(3) { 128 } else { 12 });
-    let query = (m, terms(random, m, n));
-    let mut slip = slip_of(m, &query.1);
-    let shelf = shelf(random, &query);
-    if random.once_in(4) {
-        damage(random, &mut slip);
-    }
-    let shelf_length = match random.below(16) {
-        0 => nearly(random, shelf.len()),
-        1 => (shelf.len() + SLIP_BYTES) as u16,
-        2 => (shelf.len() / 2) as u16,
-        _ => shelf.len() as u16,
-    };
-    let lengths = [nearly(random, SLIP_BYTES), shelf_length, nearly(random, RECORD_BYTES)];
-    let mut call = plain(random, Operation::LookUp, 0, lengths);
-    call.payload = fitted(&slip, lengths[0]);
-    call.payload.extend(fitted(&shelf, shelf_length));
-    call
-}
-
-/// Records end to end: mostly few, sometimes 84, the most that the script's two
-/// bytes can say.
-fn shelf(random: &mut Random, query: &(u64, Vec<u64>)) -> Vec<u8> {
-    let records = match random.below(20) {
-        0..=2 => 0,
-        3 => 84,
-        4 => random.between(8, 83),
-        _ => random.between(1, 6),
-    };
-    // On a long shelf the matches are rare, so that they stand at high numbers too.
-    let rare = if records > 8 { records } else { 2 };
-    let mut shelf = Vec::new();
-    for _ in 0..records {
-        let record = if random.once_in(rare) {
-            matching(random, query)
-        } else {
-            differing(random, query)
-        };
-        shelf.extend(record);
-    }
-    shelf
-}
-
-fn made(m: u64, terms: &[u64]) -> Vec<u8> {
-    record_with(&slip_of(m, terms), &register_of(m, terms))
-}
-
-/// A record whose first 260 bytes are the query's: as made, with another good
-/// candidate, with a bad one, or with one that fails its test.
-fn matching(random: &mut Random, (m, terms): &(u64, Vec<u64>)) -> Vec<u8> {
-    let mut register = register_of(*m, terms);
-    let kind = random.below(10);
-    match kind {
-        0 => register = trivial(terms),
-        1 => lengthen(random, &mut register),
-        _ => {}
-    }
-    let mut candidate = Candidate::of(*m, terms, &register);
-    match kind {
-        2 => change(random, &mut candidate),
-        3..=7 => spoil(random, &mut candidate),
-        _ => {}
-    }
-    candidate.record()
-}
-
-/// A record of another slip: near to the query's or far from it.
-fn differing(random: &mut Random, (m, terms): &(u64, Vec<u64>)) -> Vec<u8> {
-    match random.below(8) {
-        0 => {
-            // One byte of the first 260 differs.
-            let mut record = made(*m, terms);
-            let edge = random.pick(&[0, 1, 2, 3, 4, 258, 259]);
-            let place = if random.once_in(2) { edge } else { random.place(SLIP_BYTES) };
-            record[place] ^= 1 << random.below(8);
-            record
-        }
-        1 | 2 => {
-            // The same terms under another modulus.
-            let least = terms.iter().max().map_or(2, |t| t + 1).max(2);
-            let other = random.between(least, MODULUS_LIMIT);
-            made(if other == *m { MODULUS_LIMIT } else { other }, terms)
-        }
-        3 => {
-            // One term less or, as a zero, one term more.
-            let mut other = terms.clone();
-            if random.once_in(2) || other.len() == TERMS_LIMIT {
-                other.pop();
-            } else {
-                other.push(0);
-            }
-            made(*m, &other)
-        }
-        4 => (0..RECORD_BYTES).map(|_| random.byte()).collect(),
-        _ => {
-            let other = modulus(random);
-            let n = random.place(10);
-            let terms = structured(random, other, n);
-            made(other, &terms)
-        }
-    }
 }

@@ -39,8 +39,8 @@ const OPERATIONS: [(Operation, &str); 12] = [
     (Operation::PushAll, "push_all"),
 ];
 
-/// One call of a script. `number` is the modulus, the term, the l of a test or the
-/// records of a sheet; `l` is the l of a run.
+/// One call of a script. `number` is the modulus, the term, the l of a test, who asks in
+/// a serving or the records of a sheet; `l` is the l of a run.
 #[derive(Clone, PartialEq, Eq, Debug)]
 pub struct Call {
     pub operation: Operation,
@@ -221,7 +221,9 @@ fn perform(
             calls::generate(call.number, first, second, u32::from(call.l), third).map(ok)
         }
         Operation::Synthesize => calls::synthesize(first, second).map(ok),
-        Operation::LookUp => calls::look_up(first, second, third).map(served_word),
+        Operation::LookUp => {
+            calls::look_up(first, second, u64::from(call.number), third).map(served_word)
+        }
         Operation::Forge => {
             *reading = reading_from(first);
             Ok(String::from("ok"))

@@ -2,11 +2,14 @@
 
 use crate::calls::*;
 use crate::cases;
+use crate::catalogues;
 use crate::checks::{group, Group};
 use crate::columncases;
 use crate::columnchecks;
 use crate::compact;
 use crate::coverage;
+use crate::donorcases;
+use crate::donorchecks;
 use crate::faults;
 use crate::join::{self, Register};
 use crate::limits::*;
@@ -28,7 +31,7 @@ use crate::steps::{self, coefficient, length, Pair};
 use crate::typed;
 
 /// The groups in the order in which they run.
-const GROUPS: [(&str, fn(&mut Group)); 35] = [
+const GROUPS: [(&str, fn(&mut Group)); 39] = [
     ("cases 1 to 15", cases::cases),
     ("tables 1 and 2 of 000", cases::tables),
     ("sheets and their text by hand", cases::sheets_by_hand),
@@ -64,6 +67,10 @@ const GROUPS: [(&str, fn(&mut Group)); 35] = [
     ("columns by hand", columncases::by_hand),
     ("columns do what single takings do", columnchecks::singly),
     ("columns anywhere in lists of calls", columnchecks::anywhere),
+    ("accession numbers by hand", donorcases::by_hand),
+    ("accession numbers, servings by their bytes", donorchecks::by_bytes),
+    ("accession numbers, hidden from visitors", donorchecks::hidden),
+    ("accession numbers, fetched records", donorchecks::fetched),
 ];
 
 /// True if every group passes.
@@ -254,7 +261,8 @@ fn desk(group: &mut Group) {
         let record = record_made(group, m, &terms);
         let words = || format!("modulo {m}: {terms:?}");
         group.check(record[RECORD_LENGTH_AT..RECORD_A_AT] == (l as u16).to_le_bytes(), words);
-        group.check(record[RECORD_A_AT..RECORD_B_AT] == a && record[RECORD_B_AT..] == b, words);
+        let same = record[RECORD_A_AT..] == [&a[..], &b, &[0, 0]].concat();
+        group.check(same, words);
         let slip = slip_of(m, &terms);
         group.check(verify(&slip, &a, &b, l) == Ok(Verdict::Yes), words);
         let mut run = vec![3; CELL_BYTES * terms.len()];
@@ -281,7 +289,8 @@ fn report_after_calls(group: &mut Group, m: u64, terms: &[u64]) -> (u32, Vec<u8>
     (l.unwrap_or(0) as u32, a, b)
 }
 
-/// The record made for a slip, served alike from a shelf and from an empty one.
+/// The record made for a slip, served alike from a shelf and from an empty one, to an
+/// editor and to a visitor.
 fn record_made(group: &mut Group, m: u64, terms: &[u64]) -> Vec<u8> {
     let words = || format!("records modulo {m}: {terms:?}");
     let slip = slip_of(m, terms);
@@ -289,12 +298,15 @@ fn record_made(group: &mut Group, m: u64, terms: &[u64]) -> Vec<u8> {
     group.check(synthesize(&slip, &mut record) == Ok(()), words);
     group.check(record[..SLIP_BYTES] == slip, words);
     let shelf = [made_for(m, &[1, 0, 1]), record.clone(), made_for(m, terms)].concat();
-    let mut served = vec![9; RECORD_BYTES];
     let expected = Served::Found(usize::from(terms != [1, 0, 1]));
-    group.check(look_up(&slip, &shelf, &mut served) == Ok(expected), words);
-    group.check(served == record, words);
-    group.check(look_up(&slip, &[], &mut served) == Ok(Served::Made), words);
-    group.check(served == record, words);
+    for who in [0, 1] {
+        let mut served = vec![9; RECORD_BYTES];
+        group.check(look_up(&slip, &shelf, who, &mut served) == Ok(expected), words);
+        group.check(served == record, words);
+        served.fill(9);
+        group.check(look_up(&slip, &[], who, &mut served) == Ok(Served::Made), words);
+        group.check(served == record, words);
+    }
     record
 }
 
@@ -307,7 +319,7 @@ fn scripts(group: &mut Group) {
     let makers: [(&str, fn(u64, u64) -> Vec<u8>); 3] = [
         ("calls", scenarios::calls),
         ("candidates", scenarios::candidates),
-        ("catalogues", scenarios::catalogues),
+        ("catalogues", catalogues::rounds),
     ];
     let mut random = Random::new(18);
     for (name, make) in makers {
@@ -322,6 +334,7 @@ fn scripts(group: &mut Group) {
         }
     }
     scripts_of_lines(group);
+    scripts_of_catalogues(group);
     group.check(replay(&[]) == (String::new(), true), || String::from("no calls"));
     group.check(replay(&[12; 16]).0 == "script unknown 12\n", || String::from("unknown"));
     listings(group);
@@ -347,6 +360,21 @@ fn scripts_of_lines(group: &mut Group) {
         group.check(right, || format!("lines {seed}: cut to {left}"));
         let input = typed::typed(seed, 60);
         group.check(input == typed::typed(seed, 60), || format!("typed {seed}"));
+    }
+}
+
+/// Every script of servings and makings has those by hand in front.
+fn scripts_of_catalogues(group: &mut Group) {
+    let by_hand = catalogues::catalogues(0, 0);
+    let lines = replay(&by_hand).0.lines().count();
+    group.check(lines == 313, || format!("{lines} servings and makings by hand"));
+    for seed in 0..4 {
+        let script = catalogues::catalogues(seed, 60);
+        group.check(script.starts_with(&by_hand), || format!("catalogues {seed}: by hand"));
+        let random = catalogues::rounds(seed, 60);
+        group.check(script.ends_with(&random), || format!("catalogues {seed}: random"));
+        let found = replay(&random).0.lines().count();
+        group.check(found > 60, || format!("catalogues {seed}: {found} random calls"));
     }
 }
 

@@ -2,9 +2,9 @@
 -- Assumes nothing.
 use mathlib.Core.Path.{_≡_, refl, sym, ap, _∙_}
 use mathlib.Core.List.{List, [], _∷_}
-use Prim.Native.Nat.{ℕ, zero, suc, _+_, _*_, _/_, _≤_, _<_}
+use Prim.Native.Nat.{ℕ, zero, suc, _+_, _*_, _≤_, _<_}
 use native.Mathlib.Omega.{arith}
-use lib.ListN.{length, take, drop}
+use lib.ListN.{take, drop}
 use lib.Seq.{take-take, getD-take}
 use Rattle.lists.specs.Search.{first}
 use Rattle.lists.specs.Table.{at}
@@ -13,7 +13,7 @@ use Rattle.cells.specs.Cell.{cellAt, equal}
 use Rattle.sequence.specs.declared.Sequence.{Sequence}
 use Rattle.sequence.specs.Limits.{queryBytes, aBytes, bBytes}
 use Rattle.candidate.specs.Rules.{aCells, bCells, judgeOf}
-use Rattle.catalogue.specs.Rules.{recordBytes, bodyBytes, body, aPlace, bPlace, lengthCell, recordAt, queryAt, records, firstMatch, isYes, passes}
+use Rattle.catalogue.specs.Rules.{recordBytes, bodyBytes, body, aPlace, bPlace, lengthCell, recordAt, queryAt, firstMatch, isYes, passes}
 
 -- ---- records with the same body
 

@@ -6,7 +6,7 @@ use mathlib.Core.List.{List, _++_}
 use Prim.Native.Nat.{ℕ, _/_, _%_, _≤_, _<_}
 use native.Mathlib.Omega.{arith}
 use lib.Dec.{eqb}
-use lib.ListN.{length, take, drop}
+use lib.ListN.{length}
 use lib.Seq.{take-at, length-take-le}
 use borrow.Author.Tests.{ne-eqb}
 use Rattle.lists.specs.Choice.{pick}
@@ -18,7 +18,7 @@ use Rattle.catalogue.specs.declared.LookedUp.{LookedUp}
 use Rattle.catalogue.specs.declared.LookedUp.the-variants as S
 use Rattle.catalogue.specs.declared.Match.{Match}
 use Rattle.catalogue.specs.declared.Match.the-variants as M
-use Rattle.catalogue.specs.Rules.{recordBytes, bodyBytes, body, noNumber, recordAt, records, firstMatch, matchOf, passes, serveOf, fetchOf, orElse, lookedUpAnswer, lookUpOf, lookUpAnswer, editor, seenBy, servedIn}
+use Rattle.catalogue.specs.Rules.{recordBytes, bodyBytes, body, noNumber, recordAt, records, firstMatch, matchOf, serveOf, fetchOf, orElse, lookedUpAnswer, lookUpOf, lookUpAnswer, editor, seenBy, servedIn}
 use Rattle.catalogue.proofs.Body.{passes-same, match-same}
 use Rattle.catalogue.proofs.Laws.{match-below, found-below}
 use Rattle.catalogue.proofs.Answers.{look-up-told}

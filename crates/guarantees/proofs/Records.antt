@@ -36,7 +36,7 @@ use Rattle.candidate.specs.Rules.{aCells, bCells, IsFine, judgeOf}
 use Rattle.candidate.proofs.Laws.{of-fine, no-difference}
 use Rattle.catalogue.specs.declared.LookedUp.{LookedUp}
 use Rattle.catalogue.specs.declared.LookedUp.the-variants.{Found, Made}
-use Rattle.catalogue.specs.Rules.{recordBytes, bodyBytes, body, noNumber, aPlace, bPlace, lengthCell, layout, recordOf, synthesizeOf, recordAt, queryAt, records, firstMatch, matchOf, passes, serveOf, fetchOf, lookUpOf, editor, seenBy, servedIn}
+use Rattle.catalogue.specs.Rules.{recordBytes, body, noNumber, layout, recordOf, synthesizeOf, recordAt, queryAt, records, firstMatch, matchOf, passes, serveOf, fetchOf, lookUpOf, editor, seenBy, servedIn}
 use Rattle.catalogue.proofs.Refusals.{synthesize-query}
 use Rattle.catalogue.proofs.Places.{entry-query, entry-a, entry-b, entry-length-cell, made-body}
 use Rattle.catalogue.proofs.Visitors.{body-seen}
