@@ -50,12 +50,13 @@ generateTo m a l n = generateAnswer m (aOf a) (bOf []) l (zeros n)
 abbrev pub lookUpTo : List ℕ → List ℕ → ℕ → Answer
 lookUpTo a b l = lookUpAnswer nine (nine ++ (bytesOf (l ∷ []) ++ (aOf a ++ (bOf b ++ (7 ∷ 0 ∷ []))))) out
 
--- the two records with accession numbers 258 and 65,280, and the last two bytes that who asks for a query is served then
+-- the two records with accession numbers 258 and 65,280
 abbrev pub numbered : List ℕ
 numbered = body (recordOf nine) ++ ((2 ∷ 1 ∷ []) ++ (body (recordOf four) ++ (0 ∷ 255 ∷ [])))
 
+-- the last two bytes that who asks for a query is served from them, where a record of sevens is lent
 abbrev pub shownTo : ℕ → List ℕ → List ℕ
-shownTo who query = drop bodyBytes (servedIn who (lookUpOf query numbered out) query numbered out)
+shownTo who query = let lent : List ℕ = replicate recordBytes 7 in drop bodyBytes (servedIn who (lookUpOf query numbered lent) query numbered lent)
 
 -- a query of four terms, of which those at 1 and 3 are not below the modulus
 abbrev pub wrongAt1And3 : List ℕ
@@ -135,7 +136,9 @@ pub record Numbers : Type 0 where
   pub shown-257 : shownTo 257 nine ≡ 0 ∷ 0 ∷ []
   pub shown-65537 : shownTo 65537 nine ≡ 0 ∷ 0 ∷ []
   pub shown-large : shownTo 4294967297 nine ≡ 0 ∷ 0 ∷ []
-  pub made-number : shownTo 1 (queryOf 5 []) ≡ 0 ∷ 0 ∷ []
+  pub shown-made-1 : shownTo 1 (queryOf 5 []) ≡ 0 ∷ 0 ∷ []
+  pub shown-made-2 : shownTo 2 (queryOf 5 []) ≡ 0 ∷ 0 ∷ []
+  pub shown-refused : shownTo 2 wrongAt1And3 ≡ 7 ∷ 7 ∷ []
   pub placed-code-0 : codeOf (synthesizeTo (queryOf 5 (5 ∷ []))) ≡ 3
   pub placed-code-1 : codeOf (lookUpAnswer wrongAt1And3 two out) ≡ 3 + 256 * 1
   pub placed-code-127 : codeOf (synthesizeTo (queryOf 5 (replicate 127 4 ++ (5 ∷ [])))) ≡ 3 + 256 * 127
