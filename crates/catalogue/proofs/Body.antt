@@ -1,4 +1,4 @@
--- What stands in the body of a record, and that matching and the test behind 24 read nothing else.
+-- Records with the same body have the same parts; matching and the test behind 24 read nothing else.
 -- Assumes nothing.
 use mathlib.Core.Path.{_≡_, refl, sym, ap, _∙_}
 use mathlib.Core.List.{List, [], _∷_}
@@ -6,14 +6,13 @@ use Prim.Native.Nat.{ℕ, zero, suc, _+_, _*_, _≤_, _<_}
 use native.Mathlib.Omega.{arith}
 use lib.ListN.{take, drop}
 use lib.Seq.{take-take, getD-take}
-use Rattle.lists.specs.Search.{first}
 use Rattle.lists.specs.Table.{at}
-use Rattle.lists.proofs.Search.{first-le, first-passes, first-before, is-first}
+use Rattle.lists.proofs.Search.{first-same}
 use Rattle.cells.specs.Cell.{cellAt, equal}
 use Rattle.sequence.specs.declared.Sequence.{Sequence}
 use Rattle.sequence.specs.Limits.{queryBytes, aBytes, bBytes}
 use Rattle.candidate.specs.Rules.{aCells, bCells, judgeOf}
-use Rattle.catalogue.specs.Rules.{recordBytes, bodyBytes, body, aPlace, bPlace, lengthCell, recordAt, queryAt, firstMatch, isYes, passes}
+use Rattle.catalogue.specs.Rules.{bodyBytes, body, aPlace, bPlace, lengthCell, recordAt, isOf, firstMatch, isYes, passes}
 
 -- ---- records with the same body
 
@@ -42,19 +41,11 @@ passes-same s e e' h =
     ∙ ap (λ (z : List ℕ). judgeOf s (aCells (take aBytes (drop aPlace e'))) (bCells z) (cellAt e lengthCell)) (part-same bPlace bBytes e e' (omega arith) h)
     ∙ ap (judgeOf s (aCells (take aBytes (drop aPlace e'))) (bCells (take bBytes (drop bPlace e')))) (cell-same lengthCell e e' (omega arith) h))
 
--- ---- catalogues whose records have the same bodies
+pub of-same : (query e e' : List ℕ) → body e ≡ body e' → isOf query e ≡ isOf query e'
+unfolding isOf
+of-same query e e' h = ap (equal query) (part-same 0 queryBytes e e' (omega arith) h)
 
-module _ (query c c' : List ℕ) (n : ℕ) (bodies : (i : ℕ) → i < n → body (recordAt c i) ≡ body (recordAt c' i)) where
-  query-same : (i : ℕ) → i < n → queryAt c i ≡ queryAt c' i
-  query-same i h =
-      sym (take-take queryBytes recordBytes (drop (i * recordBytes) c) (omega arith))
-      ∙ part-same 0 queryBytes (recordAt c i) (recordAt c' i) (omega arith) (bodies i h)
-      ∙ take-take queryBytes recordBytes (drop (i * recordBytes) c') (omega arith)
-
-  -- the first match does not depend on the numbers
-  pub match-same : firstMatch query c n ≡ firstMatch query c' n
-  unfolding firstMatch
-  match-same =
-      is-first n (λ i. equal query (queryAt c' i)) (first n (λ i. equal query (queryAt c i))) (first-le n _)
-      (λ j h. ap (equal query) (sym (query-same j (omega (arith, first-le n (λ i. equal query (queryAt c i)))))) ∙ first-before n (λ i. equal query (queryAt c i)) j h)
-      (λ h. ap (equal query) (sym (query-same _ h)) ∙ first-passes n (λ i. equal query (queryAt c i)) h)
+-- the first match in catalogues whose records have the same bodies
+pub match-same : (query c c' : List ℕ) (n : ℕ) → ((i : ℕ) → i < n → body (recordAt c i) ≡ body (recordAt c' i)) → firstMatch query c n ≡ firstMatch query c' n
+unfolding firstMatch
+match-same query c c' n bodies = first-same n _ _ (λ i h. of-same query (recordAt c i) (recordAt c' i) (bodies i h))

@@ -8,14 +8,14 @@ use native.Mathlib.Nat.{lt-irrefl}
 use native.Mathlib.Omega.{arith}
 use lib.Dec.{ltb, eqb}
 use lib.ListN.{length, take, drop, set, length-drop, length-append, drop-of-length-le, take-append-drop}
-use lib.Seq.{take-at, drop-at, take-take, take-all, length-take-le, getD-take}
+use lib.Seq.{take-at, drop-at, take-all, length-take-le, getD-take}
 use borrow.Rule.Slice.PartMut.{putMid, postOf}
 use borrow.Author.Tests.{lt-ltb, le-ltb, ltb-true}
 use Rattle.lists.specs.Choice.{pick}
 use Rattle.lists.specs.Table.{at}
 use Rattle.lists.specs.Search.{first}
 use Rattle.lists.proofs.Search.{is-first}
-use Rattle.cells.specs.Cell.{putCell, bytesOf, equal}
+use Rattle.cells.specs.Cell.{putCell, bytesOf}
 use Rattle.cells.proofs.Laws.{length-bytesOf, equal-ne}
 use Rattle.synthesis.specs.declared.Synthesis.{Synthesis}
 use Rattle.synthesis.specs.Synthesis.{synthesisOf}
@@ -30,7 +30,7 @@ use Rattle.catalogue.specs.declared.Match.the-variants as M
 use Rattle.catalogue.specs.declared.LookedUp.{LookedUp}
 use Rattle.catalogue.specs.declared.LookedUp.the-variants as S
 use Rattle.catalogue.specs.Word.{wordOf}
-use Rattle.catalogue.specs.Rules.{recordBytes, bodyBytes, body, noNumber, aPlace, layout, recordOf, recordAt, queryAt, records, firstMatch, matchOf, passes, serveOf, fetchOf, orElse, lookUpOf, editor, seenBy, servedIn}
+use Rattle.catalogue.specs.Rules.{recordBytes, bodyBytes, body, noNumber, aPlace, layout, recordOf, recordAt, isOf, records, firstMatch, matchOf, passes, serveOf, fetchOf, orElse, lookUpOf, editor, seenBy, servedIn}
 
 -- ---- filling a record
 
@@ -103,7 +103,7 @@ is-record out b n ho hb =
     none : drop 2 (postOf 0 bodyBytes out) ≡ []
     none = drop-of-length-le (postOf 0 bodyBytes out) {i = 2} (omega (arith, length-drop bodyBytes out))
 
--- of the query's own sequence
+-- the record made, of the query's own sequence
 pub is-made : (query : List ℕ) (s : Sequence) → s ≡ sequenceOf query → layout query s ++ noNumber ≡ recordOf query
 unfolding recordOf
 is-made query s e = ap (λ (t : Sequence). layout query t ++ noNumber) e
@@ -124,16 +124,9 @@ cut-record catalogue at =
     let e : at + recordBytes - at ≡ recordBytes = omega arith in
     ap (λ (z : ℕ). take z (drop at catalogue)) e
 
--- the query in it
-pub cut-query :
-    (query catalogue : List ℕ) (at : ℕ) →
-    equal query (take queryBytes (take (at + recordBytes - at) (drop at catalogue))) ≡ equal query (take queryBytes (drop at catalogue))
-cut-query query catalogue at =
-    ap (λ (z : List ℕ). equal query (take queryBytes z)) (cut-record catalogue at)
-    ∙ ap (equal query) (take-take queryBytes recordBytes (drop at catalogue) (omega arith))
-
 -- records that differ in their first four terms differ
-pub word-tells : (query entry : List ℕ) (x y : ℕ) → x ≡ wordOf query → y ≡ wordOf entry → (x ≡ y → ⊥) → false ≡ equal query (take queryBytes entry)
+pub word-tells : (query entry : List ℕ) (x y : ℕ) → x ≡ wordOf query → y ≡ wordOf entry → (x ≡ y → ⊥) → false ≡ isOf query entry
+unfolding isOf
 word-tells query entry x y hx hy differ =
     sym (equal-ne query (take queryBytes entry) (λ e. differ (hx ∙ ap wordOf e ∙ cut ∙ sym hy)))
   where
@@ -155,20 +148,20 @@ word-tells query entry x y hx hy differ =
         )
 
 pub found :
-    (query catalogue : List ℕ) (i : ℕ) → i < records catalogue → ((j : ℕ) → j < i → equal query (queryAt catalogue j) ≡ false) →
-    equal query (queryAt catalogue i) ≡ true → M.At i ≡ matchOf (records catalogue) (firstMatch query catalogue (records catalogue))
+    (query catalogue : List ℕ) (i : ℕ) → i < records catalogue → ((j : ℕ) → j < i → isOf query (recordAt catalogue j) ≡ false) →
+    isOf query (recordAt catalogue i) ≡ true → M.At i ≡ matchOf (records catalogue) (firstMatch query catalogue (records catalogue))
 unfolding firstMatch
 found query catalogue i h b e =
-    let f : i ≡ first (records catalogue) (λ j. equal query (queryAt catalogue j)) = is-first (records catalogue) (λ j. equal query (queryAt catalogue j)) i (omega arith) b (λ k. e) in
+    let f : i ≡ first (records catalogue) (λ j. isOf query (recordAt catalogue j)) = is-first (records catalogue) (λ j. isOf query (recordAt catalogue j)) i (omega arith) b (λ k. e) in
     rw (← f, lt-ltb i (records catalogue) h)
 
 pub missed :
-    (query catalogue : List ℕ) → ((j : ℕ) → j < records catalogue → equal query (queryAt catalogue j) ≡ false) →
+    (query catalogue : List ℕ) → ((j : ℕ) → j < records catalogue → isOf query (recordAt catalogue j) ≡ false) →
     M.Nowhere ≡ matchOf (records catalogue) (firstMatch query catalogue (records catalogue))
 unfolding firstMatch
 missed query catalogue b =
     let n : ℕ = records catalogue in
-    let f : n ≡ first n (λ j. equal query (queryAt catalogue j)) = is-first n (λ j. equal query (queryAt catalogue j)) n (omega arith) b (λ k. absurd (lt-irrefl n k)) in
+    let f : n ≡ first n (λ j. isOf query (recordAt catalogue j)) = is-first n (λ j. isOf query (recordAt catalogue j)) n (omega arith) b (λ k. absurd (lt-irrefl n k)) in
     rw (← f, le-ltb n n (omega arith))
 
 -- a match is below the number of records that were searched

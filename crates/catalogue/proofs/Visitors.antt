@@ -6,7 +6,7 @@ use mathlib.Core.List.{List, _++_}
 use Prim.Native.Nat.{ℕ, _/_, _%_, _≤_, _<_}
 use native.Mathlib.Omega.{arith}
 use lib.Dec.{eqb}
-use lib.ListN.{length}
+use lib.ListN.{length, drop, take-append-drop}
 use lib.Seq.{take-at, length-take-le}
 use borrow.Author.Tests.{ne-eqb}
 use Rattle.lists.specs.Choice.{pick}
@@ -67,6 +67,14 @@ body-seen who entry h = go (eqb who editor)
     go : (b : Bool) → body (pick b entry (body entry ++ noNumber)) ≡ body entry
     go true = refl
     go false = take-at (body entry) noNumber bodyBytes (length-take-le bodyBytes entry h)
+
+-- a record without a number is seen whole by whoever asks
+pub seen-whole : (who : ℕ) (entry : List ℕ) → drop bodyBytes entry ≡ noNumber → seenBy who entry ≡ entry
+seen-whole who entry h = go (eqb who editor)
+  where
+    go : (b : Bool) → pick b entry (body entry ++ noNumber) ≡ entry
+    go true = refl
+    go false = ap (λ (n : List ℕ). body entry ++ n) (sym h) ∙ take-append-drop bodyBytes entry
 
 -- a record is made only of a query that passed its checks
 pub made-checked : (query c out : List ℕ) → lookUpOf query c out ≡ S.Made → checkOf query ≡ O.Done

@@ -70,19 +70,20 @@ lookedUpAnswer S.Made = granted []
 lookedUpAnswer (S.Found i) = granted (i ∷ [])
 lookedUpAnswer (S.Refused r) = refusal r
 
--- record i of a catalogue, and the query in it
+-- record i of a catalogue
 abbrev pub recordAt : List ℕ → ℕ → List ℕ
 recordAt catalogue i = take recordBytes (drop (i * recordBytes) catalogue)
-
-abbrev pub queryAt : List ℕ → ℕ → List ℕ
-queryAt catalogue i = take queryBytes (drop (i * recordBytes) catalogue)
 
 abbrev pub records : List ℕ → ℕ
 records catalogue = length catalogue / recordBytes
 
--- the first of n records whose first 260 bytes are the query's; n where there is none
+-- a record is of the query whose bytes are its first 260
+unfoldable pub isOf : List ℕ → List ℕ → Bool
+isOf query entry = equal query (take queryBytes entry)
+
+-- the first of n records that is of the query; n where none is
 unfoldable pub firstMatch : List ℕ → List ℕ → ℕ → ℕ
-firstMatch query catalogue n = first n (λ i. equal query (queryAt catalogue i))
+firstMatch query catalogue n = first n (λ i. isOf query (recordAt catalogue i))
 
 abbrev pub matchOf : ℕ → ℕ → Match
 matchOf n i = pick (ltb i n) (M.At i) M.Nowhere

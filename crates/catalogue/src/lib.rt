@@ -10,15 +10,14 @@ ghost use mathlib.Core.Path.{_≡_};
 ghost use mathlib.Core.List.{_++_};
 ghost use Prim.Native.Nat.{_+_, _*_, _/_, _≤_, _<_};
 ghost use lib.Dec.{eqb};
-ghost use lib.ListN.{length, take};
-ghost use Rattle.cells.specs.Cell.{equal};
+ghost use lib.ListN.{length};
 ghost use Rattle.sequence.specs.Limits.{queryBytes};
 ghost use Rattle.lists.specs.Choice.{pick};
 ghost use Rattle.sequence.specs.Answers.{outcomeAnswer};
 ghost use Rattle.sequence.specs.Rules.{IsSound, sequenceOf};
 ghost use Rattle.sequence.specs.Report.{filled};
 ghost use Rattle.catalogue.specs.Word.{wordOf};
-ghost use Rattle.catalogue.specs.Rules.{recordBytes, bodyBytes, noNumber, layout, recordOf, synthesizeOf, synthesizeAnswer, records, recordAt, firstMatch, matchOf, passes, serveOf, fetchOf, lookedUpAnswer, lookUpOf, lookUpAnswer, editor, seenBy, servedIn};
+ghost use Rattle.catalogue.specs.Rules.{recordBytes, bodyBytes, noNumber, layout, recordOf, synthesizeOf, synthesizeAnswer, records, recordAt, isOf, firstMatch, matchOf, passes, serveOf, fetchOf, lookedUpAnswer, lookUpOf, lookUpAnswer, editor, seenBy, servedIn};
 
 // A record is the query, the length, a, b and the accession number. a, b and the number begin at these bytes.
 pub const A_PLACE: usize = QUERY_BYTES + 2;
@@ -33,7 +32,7 @@ pub const RECORD_BYTES: usize = NUMBER_PLACE + 2;
 pub const LENGTH_CELL: usize = QUERY_BYTES / 2;
 
 // Who asks: an editor is this number, a visitor any other.
-const EDITOR: u64 = 1;
+pub const EDITOR: u64 = 1;
 
 pub enum LookedUp {
     Found(usize),
@@ -117,7 +116,7 @@ fn word(s: &[u8]) -> u64
 // of the others it reads up to the first byte that differs.
 fn is_of(query: &[u8], entry: &[u8]) -> bool
     requires { ⌜ (length (now query) ≡ queryBytes) × (length (now entry) ≡ recordBytes) ⌝ }
-    ensures { λ r. ⌜ r ≡ equal (now (query .entry)) (take queryBytes (now (entry .entry))) ⌝ }
+    ensures { λ r. ⌜ r ≡ isOf (now (query .entry)) (now (entry .entry)) ⌝ }
 {
     if word(query) != word(entry) {
         return false;
@@ -125,7 +124,7 @@ fn is_of(query: &[u8], entry: &[u8]) -> bool
     cells::same(&query[0..QUERY_BYTES], &entry[0..QUERY_BYTES])
 }
 
-// The first record whose first 260 bytes are the query's.
+// The first record of the query.
 fn find(query: &[u8], catalogue: &[u8]) -> Match
     requires { ⌜ length (now query) ≡ queryBytes ⌝ }
     ensures { λ r. ⌜ r ≡ matchOf (records (now (catalogue .entry))) (firstMatch (now (query .entry)) (now (catalogue .entry)) (records (now (catalogue .entry)))) ⌝ }

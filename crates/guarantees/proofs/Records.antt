@@ -9,13 +9,13 @@ use native.Mathlib.Nat.{mod-eq-of-lt, le-refl, not-suc-le-zero}
 use native.Mathlib.Omega.{arith}
 use lib.Dec.{eqb}
 use lib.ListN.{length, take, drop, replicate, length-append, length-drop, length-replicate, getD-replicate}
-use lib.Seq.{ext-getD, length-take-le, getD-take, getD-append-add, take-take}
+use lib.Seq.{ext-getD, length-take-le, getD-take, getD-append-add}
 use borrow.Author.Tests.{eq-eqb, ne-eqb, lt-ltb, le-ltb}
 use Rattle.lists.specs.Choice.{pick}
 use Rattle.lists.specs.Table.{at, tabulate}
 use Rattle.lists.proofs.Table.{length-tabulate, at-tabulate-all}
 use Rattle.lists.proofs.Search.{first-passes, lt-or-le}
-use Rattle.cells.specs.Cell.{cellAt, equal}
+use Rattle.cells.specs.Cell.{cellAt}
 use Rattle.cells.proofs.Laws.{cells-back, equal-eq}
 use Rattle.recurrence.specs.Polynomial.{conv}
 use Rattle.recurrence.specs.Register.{Register, register}
@@ -36,7 +36,7 @@ use Rattle.candidate.specs.Rules.{aCells, bCells, IsFine, judgeOf}
 use Rattle.candidate.proofs.Laws.{of-fine, no-difference}
 use Rattle.catalogue.specs.declared.LookedUp.{LookedUp}
 use Rattle.catalogue.specs.declared.LookedUp.the-variants.{Found, Made}
-use Rattle.catalogue.specs.Rules.{recordBytes, body, noNumber, layout, recordOf, synthesizeOf, recordAt, queryAt, records, firstMatch, matchOf, passes, serveOf, fetchOf, lookUpOf, editor, seenBy, servedIn}
+use Rattle.catalogue.specs.Rules.{recordBytes, body, noNumber, layout, recordOf, synthesizeOf, recordAt, isOf, records, firstMatch, matchOf, passes, serveOf, fetchOf, lookUpOf, editor, seenBy, servedIn}
 use Rattle.catalogue.proofs.Refusals.{synthesize-query}
 use Rattle.catalogue.proofs.Places.{entry-query, entry-a, entry-b, entry-length-cell, made-body}
 use Rattle.catalogue.proofs.Visitors.{body-seen}
@@ -241,16 +241,14 @@ module _ (query catalogue : List ℕ) (who : ℕ) (out : List ℕ) (fine : check
 
   found-body : firstMatch query catalogue (records catalogue) < records catalogue
       → body (recordAt catalogue (firstMatch query catalogue (records catalogue))) ≡ layout query (sequenceOf query)
-  unfolding firstMatch
+  unfolding firstMatch isOf
   found-body h = made-same query (recordAt catalogue j) (made .each j h) key
     where
       j : ℕ
       j = firstMatch query catalogue (records catalogue)
 
       key : take queryBytes (recordAt catalogue j) ≡ query
-      key =
-          take-take queryBytes recordBytes (drop (j * recordBytes) catalogue) (omega arith)
-          ∙ sym (equal-eq query (queryAt catalogue j) (first-passes (records catalogue) (λ k. equal query (queryAt catalogue k)) h))
+      key = sym (equal-eq query (take queryBytes (recordAt catalogue j)) (first-passes (records catalogue) (λ k. isOf query (recordAt catalogue k)) h))
 
   -- the record found as who asks sees it
   found-seen : firstMatch query catalogue (records catalogue) < records catalogue

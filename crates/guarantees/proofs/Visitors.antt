@@ -8,9 +8,10 @@ use borrow.Author.Tests.{eq-eqb, ne-eqb}
 use Rattle.sequence.specs.declared.Outcome.{Outcome}
 use Rattle.sequence.specs.Report.{filled}
 use Rattle.catalogue.specs.declared.LookedUp.{LookedUp}
-use Rattle.catalogue.specs.Rules.{bodyBytes, recordOf, lookUpOf, editor, servedIn}
+use Rattle.catalogue.specs.Rules.{bodyBytes, recordOf, recordAt, lookUpOf, editor, servedIn}
 use Rattle.catalogue.proofs.Places.{made-number}
-use Rattle.catalogue.proofs.Visitors.{reply-same, answer-same, bytes-same, made-checked}
+use Rattle.catalogue.proofs.Visitors.{reply-same, answer-same, bytes-same, seen-whole, made-checked}
+use Rattle.diverthrone.specs.Codes.{codeOf}
 use Rattle.guarantees.specs.Visitors.{servedFrom, NothingLearned, ServedTo, EveryServing}
 use Rattle.guarantees.proofs.Records.{size, making-checked}
 
@@ -19,7 +20,7 @@ unfolding NothingLearned
 nothing-learned query c c' out s =
     record {
       reply = reply-same query c c' (s .size) (s .bodies) out;
-      answer = answer-same query c c' (s .size) (s .bodies) out;
+      code = ap codeOf (answer-same query c c' (s .size) (s .bodies) out);
       visitor = λ who v. bytes-same query c c' (s .size) (s .bodies) who out v;
     }
 
@@ -33,6 +34,7 @@ module _ (who : ℕ) (query catalogue out : List ℕ) where
       record {
         editor-found = λ e i h. by-reply h ∙ rw (eq-eqb who editor e);
         visitor-found = λ v i h. by-reply h ∙ rw (ne-eqb who editor v);
+        unnumbered = λ i h z. by-reply h ∙ seen-whole who (recordAt catalogue i) z;
         made = λ h. by-reply h;
         made-number = λ h. ap (drop bodyBytes) (by-reply h) ∙ made-number query (size query (made-checked query catalogue out h));
         refused = λ r h. by-reply h;

@@ -9,6 +9,7 @@ use Rattle.sequence.specs.declared.Outcome.the-variants.{Done}
 use Rattle.sequence.specs.Report.{filled}
 use Rattle.catalogue.specs.declared.LookedUp.the-variants.{Found, Made, Refused}
 use Rattle.catalogue.specs.Rules.{bodyBytes, body, recordOf, synthesizeOf, recordAt, records, lookUpOf, lookUpAnswer, editor, servedIn}
+use Rattle.diverthrone.specs.Codes.{codeOf}
 
 -- two catalogues of the same length that differ at most in the accession numbers of their records
 pub record SameButNumbers (c c' : List ℕ) : Type 0 where
@@ -21,9 +22,9 @@ servedFrom who query catalogue out = servedIn who (lookUpOf query catalogue out)
 
 -- Looking a query up in two catalogues, with the same lent record.
 pub record Alike (query c c' out : List ℕ) : Type 0 where
-  -- the replies are the same whoever asks, refusals and found places among them, and so are their numbers
+  -- the replies are the same whoever asks, refusals and found places among them, and so is the number that C gets
   pub reply : lookUpOf query c out ≡ lookUpOf query c' out
-  pub answer : lookUpAnswer query c out ≡ lookUpAnswer query c' out
+  pub code : codeOf (lookUpAnswer query c out) ≡ codeOf (lookUpAnswer query c' out)
   -- and for a visitor every byte of the record
   pub visitor : (who : ℕ) → (who ≡ editor → ⊥) → servedFrom who query c out ≡ servedFrom who query c' out
 
@@ -37,7 +38,10 @@ pub record ServedTo (who : ℕ) (query catalogue out : List ℕ) : Type 0 where
   pub editor-found : who ≡ editor → (i : ℕ) → lookUpOf query catalogue out ≡ Found i → servedFrom who query catalogue out ≡ recordAt catalogue i
   pub visitor-found :
       (who ≡ editor → ⊥) → (i : ℕ) → lookUpOf query catalogue out ≡ Found i → servedFrom who query catalogue out ≡ body (recordAt catalogue i) ++ (0 ∷ 0 ∷ [])
-  -- both the record made, with 0 there
+  -- both the record found, whole, where it has 0 there
+  pub unnumbered :
+      (i : ℕ) → lookUpOf query catalogue out ≡ Found i → drop bodyBytes (recordAt catalogue i) ≡ 0 ∷ 0 ∷ [] → servedFrom who query catalogue out ≡ recordAt catalogue i
+  -- and the record made, with 0 there
   pub made : lookUpOf query catalogue out ≡ Made → servedFrom who query catalogue out ≡ recordOf query
   pub made-number : lookUpOf query catalogue out ≡ Made → drop bodyBytes (servedFrom who query catalogue out) ≡ 0 ∷ 0 ∷ []
   -- and after a refusal there is what was lent

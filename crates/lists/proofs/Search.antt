@@ -80,6 +80,11 @@ is-first n p r h before found = go (lt-or-le r (first n p)) (lt-or-le (first n p
     go (inr l) (inl k) = false-true (sym (before (first n p) k) ∙ first-passes n p (omega arith))
     go (inr l) (inr k) = le-antisymm k l
 
+-- tests that agree are first passed at the same place
+pub first-same : (n : ℕ) (p q : ℕ → Bool) → ((j : ℕ) → j < n → p j ≡ q j) → first n p ≡ first n q
+first-same n p q h =
+    is-first n q (first n p) (first-le n p) (λ j l. sym (h j (omega (arith, first-le n p))) ∙ first-before n p j l) (λ l. sym (h _ l) ∙ first-passes n p l)
+
 -- where some number below n passes, the search finds one no larger
 pub first-found : (n : ℕ) (p : ℕ → Bool) (j : ℕ) → j < n → p j ≡ true → (first n p ≤ j) × (p (first n p) ≡ true)
 first-found n p j h e = go (lt-or-le j (first n p))

@@ -1,20 +1,19 @@
 -- `catalogue::find` meets its contract. The loop's invariant: no record passed is one of the query.
 -- Assumes nothing.
-use mathlib.Core.Path.{_≡_, sym, _∙_}
+use mathlib.Core.Path.{_≡_, sym, ap, _∙_}
 use mathlib.Core.Bool.{false}
 use Prim.Native.Nat.{ℕ, _-_, _*_, _≤_, _<_}
 use native.Mathlib.Nat.{not-suc-le-zero}
 use native.Mathlib.Omega.{arith}
 use borrow.Author.Count.{below-more}
 use borrow.Author.Needs.{needs}
-use Rattle.cells.specs.Cell.{equal}
-use Rattle.catalogue.specs.Rules.{recordBytes, queryAt}
-use Rattle.catalogue.proofs.Laws.{cut-query, found, missed}
+use Rattle.catalogue.specs.Rules.{recordBytes, recordAt, isOf}
+use Rattle.catalogue.proofs.Laws.{cut-record, found, missed}
 use Rattle.catalogue.proofs.find.Statement.{statement}
 use Rattle.catalogue.proofs.find.Tie as tie
 
 abbrev Inv-loop : tie.InvT-loop
-Inv-loop query catalogue n i₀ i = (i ≤ n) × ((j : ℕ) → j < i → equal query (queryAt catalogue j) ≡ false)
+Inv-loop query catalogue n i₀ i = (i ≤ n) × ((j : ℕ) → j < i → isOf query (recordAt catalogue j) ≡ false)
 
 abbrev μ-loop : tie.MeasureT-loop
 μ-loop query catalogue n i₀ i = n - i
@@ -44,7 +43,7 @@ returns : tie.Need-returns Inv-loop μ-loop
 returns c =
     let l = c .before .before .before .before in
     let s = l .before .before .before .args in
-    let told = sym (cut-query (s .query .now) (s .catalogue .now) (l .loop .i * recordBytes)) ∙ sym (c .before .is-of .ensures) ∙ c .if1 .taken in
+    let told = sym (ap (isOf (s .query .now)) (cut-record (s .catalogue .now) (l .loop .i * recordBytes))) ∙ sym (c .before .is-of .ensures) ∙ c .if1 .taken in
     found _ _ _ (c .before .before .before .loop-test .taken) (l .loop .inv .1) told
 
 add-i : tie.Need-add-i Inv-loop μ-loop
@@ -57,7 +56,7 @@ loop-again : tie.Need-loop-again Inv-loop μ-loop
 loop-again c =
     let l = c .before .before .before .before in
     let s = l .before .before .before .args in
-    let told = sym (cut-query (s .query .now) (s .catalogue .now) (l .loop .i * recordBytes)) ∙ sym (c .before .is-of .ensures) ∙ c .if1 .left in
+    let told = sym (ap (isOf (s .query .now)) (cut-record (s .catalogue .now) (l .loop .i * recordBytes))) ∙ sym (c .before .is-of .ensures) ∙ c .if1 .left in
     (omega arith, below-more _ _ (l .loop .inv .1) told)
 
 returns-2 : tie.Need-returns-2 Inv-loop μ-loop

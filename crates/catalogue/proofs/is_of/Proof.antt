@@ -9,6 +9,7 @@ use lib.Seq.{take-all}
 use borrow.Author.Needs.{needs}
 use Rattle.cells.specs.Cell.{equal}
 use Rattle.sequence.specs.Limits.{queryBytes}
+use Rattle.catalogue.specs.Rules.{isOf}
 use Rattle.catalogue.proofs.Laws.{word-tells}
 use Rattle.catalogue.proofs.is_of.Statement.{statement}
 use Rattle.catalogue.proofs.is_of.Tie as tie
@@ -46,6 +47,7 @@ same-requires : tie.Need-same-requires
 same-requires c κs = search needs
 
 returns-2 : tie.Need-returns-2
+unfolding isOf
 returns-2 c =
     let s = c .before .before .before .before .before .before .before .before in
     c .same .ensures ∙ ap (λ (z : List ℕ). equal z (take queryBytes (s .args .entry .now))) (take-all queryBytes (s .args .query .now) (omega (arith, s .pre .0)))
