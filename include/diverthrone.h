@@ -6,8 +6,10 @@
  * The listing calls the length of a shortest register its start, and the degree of a, the last place of a that is not 0, its order; the order
  * is at most the start, and a is 0 past the order. Records keep the length.
  * Coefficients are lent as cells of two bytes: 129 cells (258 bytes) for a, 128 cells (256 bytes) for b, zero past the length.
- * A record is 778 bytes: the query (0..259), the length (260), a (262..519), b (520..775) and an accession number (776), which tells who gave
- * the entry and is 0 in a record just made. A catalogue is records end to end; records of 776 bytes, without the number, are none.
+ * A record is 778 bytes: the query (0..259), the length (260), a (262..519), b (520..775) and an accession number (776, 777), which is 0 in a
+ * record just made. No function gives one: the host writes it into the record's last two bytes, low byte first, and any number is legal.
+ * A catalogue is records end to end. Of its form only the length is looked at: one of old records, of 776 bytes without the number, would be
+ * cut into 778s as well, so the host rewrites it first.
  *
  * Typed lines. A line is "mod ", the modulus in digits without a sign, a colon, then terms with commas between them, without an end mark:
  * "mod 9: 6,3,1,-4,6". A term is digits, with or without a minus before them. Blanks (byte 32) may stand around a term but not inside it,
@@ -72,9 +74,9 @@ uint64_t diverthrone_synthesize(const uint8_t *query, size_t query_len, uint8_t 
  * if there is none, a record is made. Value: 0 for a record made, 1 + its place for one found, counted from 0.
  * Refusals in order: 5 (query, record), 1, 2, 3, 4, 23, 24.
  * Who asks is one number, all 64 bits of it: 1 is an editor, who is served the record as it stands; any other number, 257 and 2^32 + 1 among
- * them, is a visitor, who sees 0 for the accession number. The reply does not depend on who asks, and matching and the test do not look at
- * accession numbers: of two catalogues that differ in nothing else, a visitor gets the same reply and the same bytes. The time that a call
- * takes is not promised. */
+ * them, is a visitor, who sees 0 for the accession number. The call believes it: that only editors come as 1 is the host's to see to.
+ * The reply does not depend on who asks, and matching and the test do not look at accession numbers: from two catalogues that differ in
+ * nothing else a visitor gets the same reply and the same bytes. The time that a call takes is not promised. */
 uint64_t diverthrone_look_up(const uint8_t *query, size_t query_len, const uint8_t *catalogue, size_t catalogue_len, uint64_t who,
                              uint8_t *record, size_t record_len);
 

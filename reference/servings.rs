@@ -123,32 +123,15 @@ fn kinds_of(call: &Call, line: &str) -> Kinds {
     let words: Vec<&str> = line.split(' ').collect();
     let [slip, shelf, record] = call.buffers();
     let editor = call.number == 1;
-    let lent = call.fill != 0;
     match words[..] {
-        ["synthesize", "ok", ..] => vec![("a making, other bytes lent than 0", lent)],
+        ["synthesize", "ok", ..] => vec![("a making, other bytes lent than 0", call.fill != 0)],
         ["synthesize", _, number, ..] => {
             vec![("a making, 5, a record of 776 bytes", number == "5" && shelf.len() == 776)]
         }
         ["look_up", "found", ..] => kinds_of_found(call, &slip, &shelf),
-        ["look_up", "made", ..] => vec![
-            ("made for an editor, no record", editor && shelf.is_empty()),
-            ("made for an editor, records", editor && !shelf.is_empty()),
-            ("made for a visitor, no record", !editor && shelf.is_empty()),
-            ("made for a visitor, records", !editor && !shelf.is_empty()),
-            ("made for an editor, other bytes lent than 0", editor && lent),
-            ("made for a visitor, other bytes lent than 0", !editor && lent),
-            ("made, the slip stands at a multiple of 776", stands_at_776s(&slip, &shelf)),
-        ],
+        ["look_up", "made", ..] => kinds_of_made(call, &slip, &shelf),
         ["look_up", _, "24", ..] => kinds_of_bad(call, &slip, &shelf),
-        ["look_up", _, "23", ..] => vec![
-            ("23 for an editor", editor),
-            ("23 for a visitor", !editor),
-            ("23, a byte more", shelf.len() % 778 == 1),
-            ("23, a byte less", shelf.len() % 778 == 777),
-            ("23, a multiple of 776", shelf.len() % 776 == 0),
-            ("23, 776 bytes", shelf.len() == 776),
-            ("23, the slip stands first", shelf.starts_with(&slip)),
-        ],
+        ["look_up", _, "23", ..] => kinds_of_23(call, &slip, &shelf),
         ["look_up", _, "5", ..] => vec![
             ("5, a record of 776 bytes, for an editor", editor && record.len() == 776),
             ("5, a record of 776 bytes, for a visitor", !editor && record.len() == 776),
@@ -160,6 +143,32 @@ fn kinds_of(call: &Call, line: &str) -> Kinds {
             ("a slip refused, for a visitor", !editor),
         ],
     }
+}
+
+fn kinds_of_made(call: &Call, slip: &[u8], shelf: &[u8]) -> Kinds {
+    let (editor, lent) = (call.number == 1, call.fill != 0);
+    vec![
+        ("made for an editor, no record", editor && shelf.is_empty()),
+        ("made for an editor, records", editor && !shelf.is_empty()),
+        ("made for a visitor, no record", !editor && shelf.is_empty()),
+        ("made for a visitor, records", !editor && !shelf.is_empty()),
+        ("made for an editor, other bytes lent than 0", editor && lent),
+        ("made for a visitor, other bytes lent than 0", !editor && lent),
+        ("made, the slip stands at a multiple of 776", stands_at_776s(slip, shelf)),
+    ]
+}
+
+fn kinds_of_23(call: &Call, slip: &[u8], shelf: &[u8]) -> Kinds {
+    let editor = call.number == 1;
+    vec![
+        ("23 for an editor", editor),
+        ("23 for a visitor", !editor),
+        ("23, a byte more", shelf.len() % 778 == 1),
+        ("23, a byte less", shelf.len() % 778 == 777),
+        ("23, a multiple of 776", shelf.len() % 776 == 0),
+        ("23, 776 bytes", shelf.len() == 776),
+        ("23, the slip stands first", shelf.starts_with(slip)),
+    ]
 }
 
 /// The first record of the shelf with this slip, and its place.
@@ -188,17 +197,29 @@ fn stands_at_776s(slip: &[u8], shelf: &[u8]) -> bool {
 fn kinds_of_found(call: &Call, slip: &[u8], shelf: &[u8]) -> Kinds {
     let Some((place, found)) = first_match(slip, shelf) else { return Vec::new() };
     let number = number_of(found);
-    let (some, editor, who) = (number > 0, call.number == 1, call.number);
+    let editor = call.number == 1;
+    let mut kinds = kinds_of_asker(call.number, number);
+    kinds.extend(kinds_of_again(editor, slip, found, &shelf[778 * (place + 1)..]));
+    kinds.extend([
+        ("found, number 1", number == 1),
+        ("found, number 256", number == 256),
+        ("found, number 65,535", number == 65_535),
+        ("found, a number not below the modulus", number > 0 && not_below(slip, number)),
+        ("found after other records, a number", place > 0 && number > 0),
+        ("found at 10 or later, a number", place >= 10 && number > 0),
+        ("found by an editor, the last byte of b not 0", editor && found[775] > 0),
+        ("found by a visitor, the last byte of b not 0", !editor && found[775] > 0),
+    ]);
+    kinds
+}
+
+/// Who found a record with this number.
+fn kinds_of_asker(who: u32, number: u32) -> Kinds {
+    let (some, editor) = (number > 0, who == 1);
     let (low, high) = (some && number < 256, some && number % 256 == 0);
     let both = some && !low && !high;
     let known =
         [0, 1, 2, 3, 256, 257, 65_536, 65_537, 16_777_217, 1 << 31, (1 << 31) + 1, u32::MAX];
-    let later = shelf[778 * (place + 1)..].chunks_exact(778);
-    let again = |record: &[u8]| record[..776] == found[..776] && record[776..] != found[776..];
-    let again = later.clone().any(again);
-    // The same slip with another claim, so that it matters which is served.
-    let mut others = later.filter(|record| record[..260] == *slip);
-    let differs = others.any(|record| record[260..776] != found[260..776]);
     vec![
         ("found by an editor, number 0", editor && !some),
         ("found by an editor, the low byte alone", editor && low),
@@ -220,17 +241,21 @@ fn kinds_of_found(call: &Call, slip: &[u8], shelf: &[u8]) -> Kinds {
         ("found by 2^31 + 1, a number", who == (1 << 31) + 1 && some),
         ("found by 2^32 - 1, a number", who == u32::MAX && some),
         ("found by another, a number", !known.contains(&who) && some),
-        ("found, number 1", number == 1),
-        ("found, number 256", number == 256),
-        ("found, number 65,535", number == 65_535),
-        ("found, a number not below the modulus", some && not_below(slip, number)),
-        ("found after other records, a number", place > 0 && some),
-        ("found at 10 or later, a number", place >= 10 && some),
+    ]
+}
+
+/// What stands on the shelf behind a record found.
+fn kinds_of_again(editor: bool, slip: &[u8], found: &[u8], behind: &[u8]) -> Kinds {
+    let later = behind.chunks_exact(778);
+    let numbered = |record: &[u8]| record[..776] == found[..776] && record[776..] != found[776..];
+    let again = later.clone().any(numbered);
+    // The same slip with another claim, so that it matters which is served.
+    let mut others = later.filter(|record| record[..260] == *slip);
+    let differs = others.any(|record| record[260..776] != found[260..776]);
+    vec![
         ("found by an editor, there again with another number", editor && again),
         ("found by a visitor, there again with another number", !editor && again),
         ("found, there again with another claim", differs),
-        ("found by an editor, the last byte of b not 0", editor && found[775] > 0),
-        ("found by a visitor, the last byte of b not 0", !editor && found[775] > 0),
     ]
 }
 

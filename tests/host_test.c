@@ -1,6 +1,6 @@
-/* The C interface from C: every refusal with its place and order, every verdict, found and made, what editors and visitors see, every byte at
- * every place of a typed line, buffers of every wrong length, NULL for every slice, and that a refusal changes no byte. Expected values are the scope's cases or follow
- * from its words; guard bytes stand around every buffer. It is built as C++ too. */
+/* The C interface from C: every refusal with its place and order, every verdict, found and made, what editors and visitors see, every byte
+ * at every place of a typed line, buffers of every wrong length, NULL for every slice, and that a refusal changes no byte. Expected values
+ * are the scope's cases or follow from its words; guard bytes stand around every buffer. It is built as C++ too. */
 #include "diverthrone.h"
 
 #include <stdio.h>
@@ -155,6 +155,7 @@ static void records(void) {
     check(synthesize(&q, &r) == 0, "case 3 is made");
     check(memcmp(start(&r), start(&q), QUERY) == 0, "the record starts with the query");
     check(length_in(&r) == 3, "case 3 has length 3");
+    check(number_in(&r) == 0, "case 3 has no accession number");
     for (size_t i = 0; i < 129; i++) check(a_in(&r, i) == (i < 4 ? nine_a[i] : 0), "case 3: a");
     for (size_t i = 0; i < 128; i++) check(b_in(&r, i) == (i < 3 ? nine_b[i] : 0), "case 3: b");
     make_query(&q, 2, NULL, 0);
@@ -180,8 +181,8 @@ static void query_refusals(void) {
         refused(synthesize(&q, &r), 5, &r, "a query of another length");
     }
     q.len = QUERY;
-    static const size_t outs[] = {0, 775, 777};
-    for (size_t i = 0; i < 3; i++) {
+    static const size_t outs[] = {0, 776, 777, 779};
+    for (size_t i = 0; i < sizeof outs / sizeof *outs; i++) {
         lend(&r, outs[i], 0x5A);
         refused(synthesize(&q, &r), 5, &r, "a record of another length");
     }
@@ -265,7 +266,7 @@ static void still(uint64_t reply, const char *what) {
     lend(&c, RECORD, 0);
     memcpy(start(&c), start(&q), QUERY);
     refused(look_up(&q, &c, &r), reply, &r, what);
-    c.len = 775;
+    c.len = RECORD - 1;
     refused(look_up(&q, &c, &r), reply, &r, what);
     refused(verify(&q, &a, &b, 129), reply, NULL, what);
     refused(verify(&q, &a, &b, 2), reply, NULL, what);
@@ -328,8 +329,8 @@ static void catalogues(void) {
     check(look_up(&q, &c, &r) == 0, "an empty catalogue");
     c.len = 3 * RECORD;
     lend(&r, RECORD, 0x5A);
-    c.len = 775;
-    refused(look_up(&q, &c, &r), 23, &r, "a catalogue of 775 bytes");
+    c.len = RECORD - 1;
+    refused(look_up(&q, &c, &r), 23, &r, "a catalogue of 777 bytes");
     make_query(&q, 1, nine, 0);
     refused(look_up(&q, &c, &r), 1, &r, "1 comes before 23");
     q.len = 259;
@@ -340,15 +341,26 @@ static void catalogues(void) {
     refused(look_up(&q, &c, &r), 24, &r, "a record that fails its test");
     c.len = 3 * RECORD + 1;
     refused(look_up(&q, &c, &r), 23, &r, "23 comes before 24");
-    lend(&r, 775, 0x5A);
+    lend(&r, RECORD - 1, 0x5A);
     refused(look_up(&q, &c, &r), 5, &r, "a record of another length");
 }
 
 /* ---- accession numbers ---- */
 
-static const uint64_t askers[] = {0,     1,          2,          3,          255,        256,        257,
-                                  65535, UINT64_C(65537), UINT64_C(4294967295), UINT64_C(4294967296), UINT64_C(4294967297),
-                                  UINT64_C(9223372036854775809), UINT64_C(18446744073709551615)};
+/* Cut to 8, 16, 32 or 63 bits, some of these would be 1. */
+static const uint64_t askers[] = {0,
+                                  1,
+                                  2,
+                                  3,
+                                  255,
+                                  256,
+                                  257,
+                                  65537,
+                                  UINT64_C(4294967295),
+                                  UINT64_C(4294967297),
+                                  UINT64_C(281474976710657),
+                                  UINT64_C(9223372036854775809),
+                                  UINT64_C(18446744073709551615)};
 enum { ASKERS = sizeof askers / sizeof *askers };
 
 /* Only the low byte, only the high byte, both, and none. */
@@ -384,6 +396,23 @@ static void first_of_two(void) {
     number(0, 513), number(2, 0);
     check(look_up_for(1, &q, &c, &r) == 256 && number_in(&r) == 513, "an editor sees the number of the first match");
     check(look_up_for(2, &q, &c, &r) == 256 && number_in(&r) == 0, "a visitor the same place");
+}
+
+/* A record that has other bytes than 0 right before its number: 128 terms, a = 1 and b the terms. */
+static void up_to_the_number(void) {
+    unsigned many[128];
+    for (size_t i = 0; i < 128; i++) many[i] = 0x0E0D;
+    make_query(&q, 4095, many, 128);
+    lend(&c, RECORD, 0);
+    memcpy(start(&c), start(&q), QUERY);
+    put(start(&c) + DIVERTHRONE_LENGTH_PLACE, 0, 128), put(start(&c) + DIVERTHRONE_A_PLACE, 0, 1), number(0, 0x1234);
+    for (size_t i = 0; i < 128; i++) put(start(&c) + DIVERTHRONE_B_PLACE, i, many[i]);
+    for (size_t j = 0; j < ASKERS; j++) {
+        lend(&r, RECORD, 0x5A);
+        check(look_up_for(askers[j], &q, &c, &r) == 256, "a = 1 with b = S is found");
+        check(memcmp(start(&r), start(&c), RECORD - 2) == 0, "all of b goes out to everyone");
+        check(number_in(&r) == (askers[j] == 1 ? 0x1234u : 0u), "and the number behind it to 1 alone");
+    }
 }
 
 /* A record made has 0 for everyone, whatever was lent. */
@@ -998,6 +1027,7 @@ int main(void) {
     catalogues();
     found_by_all();
     first_of_two();
+    up_to_the_number();
     made_for_all();
     tested_without();
     old_sizes();

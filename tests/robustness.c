@@ -3,7 +3,8 @@
  *   robustness --back, robustness --front
  *       replays the script on standard input and writes the same text as the second program for verify, generate, synthesize, look_up and
  *       read_line; the other operations are passed over. --back puts the end of each buffer at the forbidden page, --front its start;
- *       every other call hands over NULL for its empty buffers, and every other visitor is a number above 2^32 that ends like an editor's.
+ *       every other call hands over NULL for its empty buffers, and the others a number above 2^32 that ends like an editor's for a visitor.
+ *       To standard error go how many records with an accession number were found for editors, and for visitors of such a number.
  *   robustness --expand SEED COPIES
  *       writes the script on standard input again, with so many altered copies behind each of these calls.
  *
@@ -142,6 +143,18 @@ static uint64_t asker(const struct call *c) {
     return c->number != DIVERTHRONE_EDITOR && calls_made % 2 == 1 ? large : c->number;
 }
 
+static unsigned long editors_found, visitors_found;
+
+/* A record with an accession number was found. */
+static void count_found(const struct call *c, uint64_t reply) {
+    uint64_t value = diverthrone_value(reply);
+    if (c->op != LOOK_UP || diverthrone_refusal(reply) != 0 || value == 0) return;
+    const uint8_t *record = c->bytes[1] + (value - 1) * RECORD;
+    if (number_at(record + NUMBER_AT, 2) == 0) return;
+    editors_found += c->number == DIVERTHRONE_EDITOR;
+    visitors_found += asker(c) > UINT32_MAX;
+}
+
 static uint64_t enter(const struct call *c, uint8_t *const p[3]) {
     const size_t *n = c->len;
     switch (c->op) {
@@ -193,7 +206,9 @@ static void make(const struct call *c) {
     lend(c, p);
     calls_made++;
     for (size_t i = 0; i < 3; i++) given[i] = c->len[i] == 0 && calls_made % 2 == 0 ? NULL : p[i];
-    print_reply(c->op, enter(c, given));
+    uint64_t reply = enter(c, given);
+    print_reply(c->op, reply);
+    count_found(c, reply);
     for (size_t i = 0; i < buffers(c); i++) {
         if (i >= inputs(c))
             printf(" %08x", (unsigned)hash(p[i], c->len[i]));
@@ -214,6 +229,7 @@ static int replay(struct call *c) {
     for (size_t i = 0; i < 3; i++) map_area(&areas[i]);
     while (read_call(c))
         if (tested(c)) make(c);
+    fprintf(stderr, "editors_found %lu\nvisitors_found %lu\n", editors_found, visitors_found);
     return 0;
 }
 

@@ -32,10 +32,11 @@ build() {
 # PROGRAM SIDE ROUND: makes the calls of the script and compares the text.
 compare() {
     status=0
-    "$work/$1" "$2" <"$work/script" >"$work/got" || status=$?
+    "$work/$1" "$2" <"$work/script" >"$work/got" 2>"$work/told" || status=$?
     if [ "$status" -eq 0 ] && cmp -s "$work/want" "$work/got"; then
         return
     fi
+    cat "$work/told"
     echo "robustness: $3, $1 $2: exit $status"
     awk -v got="$work/got" '{
         if ((getline line <got) <= 0) line = "nothing more"
@@ -59,10 +60,12 @@ round() {
         { n[$1]++ }
         $2 == "refused" { n[$3 != 3 && $3 != 27 ? $3 : $5 == 0 ? $3 "_at_0" : $3 "_later"]++ }
         END { for (k in n) print k, n[k] }' "$work/want" >>"$work/tally"
+    cat "$work/told" >>"$work/tally"
     calls=$((calls + $(wc -l <"$work/want")))
 }
 
-# A refusal that was never seen is a fault of the test; 3 and 27 must have come at place 0 and at later ones.
+# A refusal that was never seen is a fault of the test; 3 and 27 must have come at place 0 and at later ones. So is it if no record with an
+# accession number was found by an editor, or by a visitor above 2^32.
 total() {
     awk -v calls="$calls" -v seeds="$seed" -v seconds=$(($(date +%s) - began)) '
         { n[$1] += $2 }
@@ -76,8 +79,9 @@ total() {
                 printf " %s: %d,", r[i], n[r[i]]
                 unseen += n[r[i]] == 0
             }
+            printf " found with a number for editors %d, for visitors above 2^32 %d,", n["editors_found"], n["visitors_found"]
             printf " %d seeds, %d seconds\n", seeds, seconds
-            exit unseen > 0
+            exit unseen > 0 || n["editors_found"] == 0 || n["visitors_found"] == 0
         }' "$work/tally"
 }
 

@@ -11,13 +11,13 @@
 #include <sys/mman.h>
 
 enum { TERMS = 128, STACK = 1 << 17, PAINT = 0xC3 };
-enum { NOTHING, VERIFY, GENERATE, SYNTHESIZE, MADE, FOUND, READ_LINE, REGISTER, TRACE, KINDS };
+enum { NOTHING, VERIFY, GENERATE, SYNTHESIZE, MADE, FOUND, SHOWN, READ_LINE, REGISTER, TRACE, KINDS };
 
 uint32_t timing_register(uint32_t m, uint32_t count, const uint32_t *terms, uint8_t *a, size_t a_len, uint8_t *b, size_t b_len);
 uint64_t timing_trace(uint32_t m, uint32_t count, const uint32_t *terms, uint8_t *a, size_t a_len, uint8_t *b, size_t b_len);
 
-static const char *const names[KINDS] = {"no call",       "verify",    "generate", "synthesize", "look_up made",
-                                         "look_up found", "read_line", "register", "trace"};
+static const char *const names[KINDS] = {"no call",       "verify", "generate",  "synthesize", "look_up made",
+                                         "look_up found", "editor", "read_line", "register",   "trace"};
 static uint8_t *stack, *caller;
 static uint8_t query[DIVERTHRONE_QUERY_BYTES], record[DIVERTHRONE_RECORD_BYTES], shelf[DIVERTHRONE_RECORD_BYTES], cells[2 * TERMS];
 static uint8_t a_cells[DIVERTHRONE_A_BYTES], b_cells[DIVERTHRONE_B_BYTES];
@@ -45,6 +45,7 @@ static uint64_t enter(int kind) {
     case SYNTHESIZE: return diverthrone_synthesize(query, sizeof query, record, sizeof record);
     case MADE: return diverthrone_look_up(query, sizeof query, shelf, 0, 0, record, sizeof record);
     case FOUND: return diverthrone_look_up(query, sizeof query, shelf, sizeof shelf, 0, record, sizeof record);
+    case SHOWN: return diverthrone_look_up(query, sizeof query, shelf, sizeof shelf, DIVERTHRONE_EDITOR, record, sizeof record);
     case READ_LINE: return diverthrone_read_line(line, line_len, typed, sizeof typed);
     case REGISTER: return timing_register(modulus, TERMS, terms, a_cells, sizeof a_cells, b_cells, sizeof b_cells) != l;
     case TRACE: return timing_trace(modulus, TERMS, terms, a_cells, sizeof a_cells, b_cells, sizeof b_cells) == 0;
@@ -55,7 +56,7 @@ static uint64_t enter(int kind) {
 static void *run(void *argument) {
     int *kind = argument;
     caller = __builtin_frame_address(0);
-    *kind = enter(*kind) == (*kind == FOUND ? 256u : 0u);
+    *kind = enter(*kind) == (*kind == FOUND || *kind == SHOWN ? 256u : 0u);
     return NULL;
 }
 
