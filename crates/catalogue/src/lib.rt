@@ -221,8 +221,7 @@ fn fetch(query: &[u8], s: Sequence, catalogue: &[u8], who: u64, out: &mut [u8]) 
 }
 
 // Looks a query up in a catalogue for who asks: the first record with this query, or one made.
-// Rejected: one that says made before it looks; one that matches the terms without modulus and count; one that shows a visitor whose low
-// bytes are 1 the accession number.
+// Rejected: one that says made before it looks; one that matches the terms without modulus and count; one that takes 257 for an editor.
 pub fn look_up(query: &[u8], catalogue: &[u8], who: u64, out: &mut [u8]) -> LookedUp
     ensures { λ r. ⌜ r ≡ lookUpOf (now (query .entry)) (now (catalogue .entry)) (now (out .entry)) ⌝ }
     ensures { λ r. ⌜ now (out .exit) ≡ servedIn who r (now (query .entry)) (now (catalogue .entry)) (now (out .entry)) ⌝ }
