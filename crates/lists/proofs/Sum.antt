@@ -1,9 +1,10 @@
 -- Laws of sums.
 -- Assumes nothing.
 use mathlib.Core.Path.{_≡_, refl, sym, ap, ap₂}
-use mathlib.Core.Logic.{_⊎_, inl, inr}
+use mathlib.Core.Logic.{_⊎_, inl, inr, _≢_}
 use Prim.Native.Nat.{ℕ, zero, suc, _+_, _*_, _≤_, _<_}
 use native.Mathlib.Nat.{eq-or-lt-of-le}
+use native.Mathlib.Decide.{decLt}
 use native.Mathlib.Numerals.{add-one}
 use native.Mathlib.Omega.{arith}
 use Rattle.lists.specs.Sum.{sumTo}
@@ -39,3 +40,36 @@ pub sumTo-le : (n c : ℕ) (f : ℕ → ℕ) → ((i : ℕ) → i < n → f i �
 unfolding sumTo
 sumTo-le zero c f h = omega arith
 sumTo-le (suc n) c f h = omega (arith, sumTo-le n c f (λ i k. h i (omega arith)), h n (omega arith))
+
+pub sumTo-add : (n : ℕ) (f g : ℕ → ℕ) → sumTo n (λ i. f i + g i) ≡ sumTo n f + sumTo n g
+unfolding sumTo
+sumTo-add zero f g = refl
+sumTo-add (suc n) f g = omega (arith, sumTo-add n f g)
+
+pub sumTo-ones : (n : ℕ) → sumTo n (λ i. 1) ≡ n
+unfolding sumTo
+sumTo-ones zero = refl
+sumTo-ones (suc n) = omega (arith, sumTo-ones n)
+
+-- all summands are 0, or all but one
+pub sumTo-zeros : (n : ℕ) (f : ℕ → ℕ) → ((i : ℕ) → i < n → f i ≡ zero) → sumTo n f ≡ zero
+unfolding sumTo
+sumTo-zeros zero f h = refl
+sumTo-zeros (suc n) f h = omega (arith, sumTo-zeros n f (λ i k. h i (omega arith)), h n (omega arith))
+
+pub sumTo-single : (n s : ℕ) (f : ℕ → ℕ) → s < n → ((i : ℕ) → i < n → i ≢ s → f i ≡ zero) → sumTo n f ≡ f s
+unfolding sumTo
+sumTo-single zero s f h g = absurd (omega arith)
+sumTo-single (suc n) s f h g = go (decLt s n) (λ l. sumTo-single n s f l (λ i k ne. g i (omega arith) ne))
+  where
+    go : Dec (s < n) → (s < n → sumTo n f ≡ f s) → sumTo n f + f n ≡ f s
+    go (yes l) ih = omega (arith, ih l, g n (omega arith) (λ z. omega arith))
+    go (no l) ih =
+        let e : n ≡ s = omega arith in
+        omega (arith, sumTo-zeros n f (λ i k. g i (omega arith) (λ z. omega arith)), ap f e)
+
+-- a sum of sums in the other order
+pub sumTo-swap : (n m : ℕ) (f : ℕ → ℕ → ℕ) → sumTo n (λ i. sumTo m (f i)) ≡ sumTo m (λ j. sumTo n (λ i. f i j))
+unfolding sumTo
+sumTo-swap zero m f = sym (sumTo-zeros m (λ j. zero) (λ i h. refl))
+sumTo-swap (suc n) m f = omega (arith, sumTo-swap n m f, sumTo-add m (λ j. sumTo n (λ i. f i j)) (f n))

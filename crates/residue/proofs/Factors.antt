@@ -4,8 +4,8 @@ use mathlib.Core.Path.{_≡_, refl, sym, ap, ap₂, _∙_, subst}
 use mathlib.Core.Logic.{_⊎_, inl, inr, _≢_}
 use mathlib.Core.Bool.{Bool, true, false}
 use mathlib.Core.List.{List, [], _∷_}
-use Prim.Native.Nat.{ℕ, zero, suc, _*_, _/_, _%_, _^_, _≤_, _<_}
-use native.Mathlib.Nat.{le-refl, mod-self, mod-mod-of-dvd, dvd-of-mod-eq-zero, zero-mod, pow-suc, pow-zero, div-one, mul-comm, mul-le-mul-left, mul-le-mul-right, mul-mod-left, pos-of-ne-zero}
+use Prim.Native.Nat.{ℕ, zero, suc, _*_, _-_, _/_, _%_, _^_, _≤_, _<_}
+use native.Mathlib.Nat.{le-refl, mod-self, mod-eq-of-lt, mod-mod-of-dvd, dvd-of-mod-eq-zero, zero-mod, pow-suc, pow-zero, div-one, div-self, one-mul, mul-comm, mul-le-mul-left, mul-le-mul-right, mul-mod-left, pos-of-ne-zero}
 use native.Mathlib.Decide.{ℕ-discrete}
 use native.Mathlib.Omega.{arith}
 use lib.Dec.{leb, eqb}
@@ -17,9 +17,9 @@ use Rattle.lists.proofs.Search.{both-left, both-right, both-true, first-le, fir
 use Rattle.residue.specs.Congruence.{Cong}
 use Rattle.residue.specs.Units.{Prime}
 use Rattle.residue.specs.Valuation.{valuation, cofactor}
-use Rattle.residue.specs.Factors.{leastDivisor, PrimePower, value, leastPower, powersUpTo, primePowers}
+use Rattle.residue.specs.Factors.{leastDivisor, isPrime, PrimePower, value, leastPower, powersUpTo, primePowers}
 use Rattle.residue.proofs.Congruence.{pow-lt, cong-left, cong-right}
-use Rattle.residue.proofs.Valuation.{Parts, valuation-parts, cofactor-of}
+use Rattle.residue.proofs.Valuation.{Parts, valuation-more, valuation-stop, valuation-parts, cofactor-of}
 
 -- ---- the least divisor
 
@@ -75,6 +75,19 @@ divides-trans d p m h k =
 
 pub least-divisor-prime : (m p : ℕ) → IsLeastDivisor m p → Prime p
 least-divisor-prime m p x = record { big = x .big; bare = λ d lo hi z. x .none d lo hi (divides-trans d p m z (x .divides)) }
+
+-- ---- the test for a prime
+
+prime-divisor : (p : ℕ) → Prime p → leastDivisor p ≡ p
+prime-divisor p P = sym (is-least-divisor p p (P .big) (record { big = P .big; most = le-refl p; divides = mod-self p; none = P .bare }))
+
+pub test-prime : (p : ℕ) → isPrime p ≡ true → Prime p
+test-prime p h =
+    subst Prime (eqb-true (leastDivisor p) p (both-right (leb 2 p) (eqb (leastDivisor p) p) h))
+    (least-divisor-prime p (leastDivisor p) (least-divisor p (leb-true 2 p (both-left (leb 2 p) (eqb (leastDivisor p) p) h))))
+
+pub prime-test : (p : ℕ) → Prime p → isPrime p ≡ true
+prime-test p P = both-true (le-leb 2 p (P .big)) (eq-eqb (leastDivisor p) p (prime-divisor p P))
 
 -- ---- its power in m
 
@@ -198,6 +211,34 @@ pub powers-none : (m : ℕ) → m ≤ 1 → primePowers m ≡ []
 unfolding primePowers powersUpTo
 powers-none zero h = refl
 powers-none (suc n) h = rw (le-leb (suc n) 1 h, powersUpTo)
+
+-- ---- the one prime power of a prime
+
+pub power-one : (p : ℕ) → p ^ 1 ≡ p
+power-one p = pow-suc p zero ∙ ap (λ (x : ℕ). x * p) (pow-zero p) ∙ one-mul p
+
+abbrev pub itself : ℕ → PrimePower
+itself p = record { prime = p; exponent = 1 }
+
+exponent-one : (f p : ℕ) → 1 < p → valuation (suc f) p p ≡ 1
+exponent-one f p big =
+    valuation-more f p p (mod-self p)
+    ∙ ap suc (ap (valuation f p) (div-self (let z : zero < p = omega arith in z))
+    ∙ valuation-stop f p 1 (λ z. let w : 1 ≡ zero = sym (mod-eq-of-lt big) ∙ z in omega arith))
+
+pub prime-powers : (p : ℕ) → Prime p → primePowers p ≡ itself p ∷ []
+unfolding leastPower
+prime-powers p P =
+    powers-more p (P .big)
+    ∙ ap (λ (f : PrimePower). f ∷ primePowers (p / value f)) least
+    ∙ ap (λ (x : ℕ). itself p ∷ primePowers x) (ap (λ (x : ℕ). p / x) (power-one p) ∙ div-self (let z : zero < p = omega (arith, P .big) in z))
+    ∙ ap (λ (fs : List PrimePower). itself p ∷ fs) (powers-none 1 (le-refl 1))
+  where
+    least : leastPower p ≡ itself p
+    least =
+        ap (λ (q : ℕ). record { prime = q; exponent = valuation p q p }) (prime-divisor p P)
+        ∙ ap (λ (u : ℕ). record { prime = p; exponent = u })
+        (ap (λ (f : ℕ). valuation f p p) (let z : p ≡ suc (p - 1) = omega (arith, P .big) in z) ∙ exponent-one (p - 1) p (P .big))
 
 -- ---- a fact at every prime power
 

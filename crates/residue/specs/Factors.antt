@@ -1,6 +1,6 @@
 -- The prime powers of a number.
 -- Assumes nothing.
-use mathlib.Core.Bool.{true, false}
+use mathlib.Core.Bool.{Bool, true, false}
 use mathlib.Core.List.{List, [], _∷_}
 use Prim.Native.Nat.{ℕ, zero, suc, _/_, _%_, _^_}
 use lib.Dec.{leb, eqb}
@@ -11,6 +11,10 @@ use Rattle.residue.specs.Valuation.{valuation}
 -- the least divisor of n from 2 up, which is its least prime; 0 and 1 stand for themselves
 unfoldable pub leastDivisor : ℕ → ℕ
 leastDivisor n = first n (λ d. both (leb 2 d) (eqb (n % d) zero))
+
+-- n is prime: from 2 up, the number that is its own least divisor
+abbrev pub isPrime : ℕ → Bool
+isPrime n = both (leb 2 n) (eqb (leastDivisor n) n)
 
 -- the numbers whose least divisors are at hand stop before this one
 abbrev pub divisorsEnd : ℕ

@@ -1,0 +1,6 @@
+pub mod Counts
+pub mod Numbering
+pub mod Prime
+pub mod Terms
+pub mod Sole
+pub mod Solutions

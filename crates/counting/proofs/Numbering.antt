@@ -1,0 +1,112 @@
+-- Every list of n numbers below m has exactly one number below m^n.
+-- Assumes nothing.
+use mathlib.Core.Path.{_≡_, refl, sym, ap, _∙_, subst}
+use mathlib.Core.List.{List, [], _∷_, _++_}
+use Prim.Native.Nat.{ℕ, zero, suc, _+_, _*_, _/_, _%_, _^_, _<_}
+use native.Mathlib.Nat.{mod-lt, mod-eq-of-lt, div-eq-of-lt, mul-add-div-right, mul-add-mod-self-right, div-add-mod', div-lt-iff-lt-mul, pow-suc, pow-zero, mul-le-mul-right}
+use native.Mathlib.Decide.{ℕ-discrete, decLt}
+use native.Mathlib.Omega.{arith}
+use lib.ListN.{length, length-append, List·getD-append}
+use lib.Seq.{ext-getD, getD-at}
+use Rattle.lists.specs.Table.{at}
+use Rattle.lists.proofs.Table.{at-past}
+use Rattle.counting.specs.Numbering.{listAt, ListOf, NumberOf}
+
+-- ---- a list with one more entry
+
+pub length-snoc : (ts : List ℕ) (t : ℕ) → length (ts ++ (t ∷ [])) ≡ suc (length ts)
+length-snoc ts t = length-append ts (t ∷ []) ∙ omega arith
+
+pub at-front : (ts : List ℕ) (t i : ℕ) → i < length ts → at (ts ++ (t ∷ [])) i ≡ at ts i
+at-front ts t i h = List·getD-append ts (t ∷ []) zero i h
+
+pub at-last : (ts : List ℕ) (t n : ℕ) → length ts ≡ n → at (ts ++ (t ∷ [])) n ≡ t
+at-last ts t n e = getD-at ts t [] zero n e
+
+module _ (m : ℕ) where
+  pub listAt-length : (n x : ℕ) → length (listAt m n x) ≡ n
+  unfolding listAt
+  listAt-length zero x = refl
+  listAt-length (suc n) x = length-snoc (listAt m n (x / m)) (x % m) ∙ ap suc (listAt-length n (x / m))
+
+  -- one more entry
+  pub listAt-more : (n y s : ℕ) → s < m → listAt m (suc n) (y * m + s) ≡ listAt m n y ++ (s ∷ [])
+  unfolding listAt
+  listAt-more n y s h =
+      ap (λ (z : ℕ). listAt m n z ++ ((y * m + s) % m ∷ [])) (mul-add-div-right (let z : zero < m = omega arith in z) y s ∙ omega (arith, div-eq-of-lt h))
+      ∙ ap (λ (z : ℕ). listAt m n y ++ (z ∷ [])) (mul-add-mod-self-right y m s ∙ mod-eq-of-lt h)
+
+  module _ (pos : zero < m) where
+    pub listAt-below : (n x i : ℕ) → at (listAt m n x) i < m
+    unfolding listAt
+    listAt-below zero x i = pos
+    listAt-below (suc n) x i = go (decLt i n) (ℕ-discrete i n) (listAt-below n (x / m) i)
+      where
+        go : Dec (i < n) → Dec (i ≡ n) → at (listAt m n (x / m)) i < m → at (listAt m n (x / m) ++ (x % m ∷ [])) i < m
+        go (yes l) d h = omega (arith, at-front (listAt m n (x / m)) (x % m) i (omega (arith, listAt-length n (x / m))))
+        go (no a) (yes e) h = omega (arith, at-last (listAt m n (x / m)) (x % m) i (listAt-length n (x / m) ∙ sym e), mod-lt x pos)
+        go (no a) (no b) h =
+            omega (arith, at-past (listAt m n (x / m) ++ (x % m ∷ [])) i (omega (arith, length-snoc (listAt m n (x / m)) (x % m), listAt-length n (x / m))))
+
+    pub listAt-of : (n x : ℕ) → ListOf m n (listAt m n x)
+    listAt-of n x = record { size = listAt-length n x; below = λ i h. listAt-below n x i }
+
+  -- the number of n terms, the last one counting least
+  unfoldable pub number : ℕ → (ℕ → ℕ) → ℕ
+  number zero s = zero
+  number (suc n) s = number n s * m + s n
+
+  pub number-eq : (n : ℕ) (s t : ℕ → ℕ) → ((i : ℕ) → i < n → s i ≡ t i) → number n s ≡ number n t
+  unfolding number
+  number-eq zero s t h = refl
+  number-eq (suc n) s t h = omega (arith, ap (λ (z : ℕ). z * m) (number-eq n s t (λ i k. h i (omega arith))), h n (omega arith))
+
+  pub number-below : (n : ℕ) (s : ℕ → ℕ) → ((i : ℕ) → i < n → s i < m) → number n s < m ^ n
+  unfolding number
+  number-below zero s h = omega (arith, pow-zero m)
+  number-below (suc n) s h =
+      omega (arith, pow-suc m n, mul-le-mul-right m (number-below n s (λ i k. h i (omega arith))), h n (omega arith))
+
+  pub listAt-number : (n : ℕ) (s : ℕ → ℕ) → ((i : ℕ) → i < n → s i < m) → (i : ℕ) → i < n → at (listAt m n (number n s)) i ≡ s i
+  unfolding number
+  listAt-number zero s h i l = absurd (omega arith)
+  listAt-number (suc n) s h i l =
+      ap (λ (ts : List ℕ). at ts i) (listAt-more n (number n s) (s n) (h n (omega arith)))
+      ∙ go (decLt i n) (λ k. listAt-number n s (λ j z. h j (omega arith)) i k)
+    where
+      go : Dec (i < n) → (i < n → at (listAt m n (number n s)) i ≡ s i) → at (listAt m n (number n s) ++ (s n ∷ [])) i ≡ s i
+      go (yes k) ih = at-front (listAt m n (number n s)) (s n) i (omega (arith, listAt-length n (number n s))) ∙ ih k
+      go (no k) ih =
+          let e : n ≡ i = omega arith in
+          at-last (listAt m n (number n s)) (s n) i (listAt-length n (number n s) ∙ e) ∙ ap s e
+
+  quotient-below : (n x : ℕ) → zero < m → x < m ^ suc n → x / m < m ^ n
+  quotient-below n x pos h = div-lt-iff-lt-mul {k = m} pos .1 (subst (λ (z : ℕ). x < z) (pow-suc m n) h)
+
+  pub number-listAt : zero < m → (n x : ℕ) → x < m ^ n → number n (at (listAt m n x)) ≡ x
+  unfolding number listAt
+  number-listAt pos zero x h = omega (arith, pow-zero m)
+  number-listAt pos (suc n) x h =
+      omega (
+        arith,
+        at-last (listAt m n (x / m)) (x % m) n (listAt-length n (x / m)),
+        div-add-mod' x m,
+        ap (λ (z : ℕ). z * m) (number-eq n _ (at (listAt m n (x / m))) (λ i k. at-front (listAt m n (x / m)) (x % m) i (omega (arith, listAt-length n (x / m))))
+            ∙ number-listAt pos n (x / m) (quotient-below n x pos h)),
+      )
+
+  -- lists with equal entries have equal numbers
+  pub listAt-inj : zero < m → (n x y : ℕ) → x < m ^ n → y < m ^ n → ((i : ℕ) → i < n → at (listAt m n x) i ≡ at (listAt m n y) i) → x ≡ y
+  listAt-inj pos n x y hx hy h =
+      sym (number-listAt pos n x hx) ∙ number-eq n (at (listAt m n x)) (at (listAt m n y)) h ∙ number-listAt pos n y hy
+
+  -- every list of n numbers below m has exactly one number
+  pub numbered : zero < m → (n : ℕ) (ts : List ℕ) → ListOf m n ts → NumberOf m n ts (number n (at ts))
+  numbered pos n ts h =
+      record {
+        below = number-below n (at ts) (h .below);
+        is =
+            ext-getD zero (listAt m n (number n (at ts))) ts (listAt-length n (number n (at ts)) ∙ sym (h .size))
+            (λ i l. listAt-number n (at ts) (h .below) i (omega (arith, listAt-length n (number n (at ts)))));
+        only = λ y l e. sym (number-listAt pos n y l) ∙ ap (λ (us : List ℕ). number n (at us)) e;
+      }
