@@ -1,5 +1,5 @@
-//! The calls of document 01, and of requests A1 to A3, A5 and A7 in 02, on plain values
-//! and byte buffers.
+//! The calls of document 01, and of requests A1 to A3, A5, A7 and A8 in 02, on plain
+//! values and byte buffers.
 //!
 //! "Order where several apply: 5, 21, 1, 2, 22, 3, 4, 6, 23, 24. Each call gives
 //! only those that concern what it is handed." 25 comes right before 6, 26 right
@@ -13,6 +13,7 @@ use crate::join::{
 };
 use crate::limits::*;
 use crate::lines;
+use crate::only::{only, Only};
 use crate::refusals::Refusal;
 use crate::steps::{product_coefficient, StepRecord};
 
@@ -24,6 +25,9 @@ pub struct Reading {
     pub count: u16,
     pub terms: [u16; TERMS_LIMIT],
 }
+
+/// What a report and a tracing return: l, and whether another register is as short.
+pub type Reported = (usize, Only);
 
 /// The verdict of a test; no carries the first place that differs.
 #[derive(Clone, Copy, PartialEq, Eq, Debug)]
@@ -179,21 +183,22 @@ fn fitting(held: &Sequence, offered: &[u64]) -> (usize, Result<(), Refusal>) {
     (taken, outcome)
 }
 
-/// Reports the register and returns l: 5, 21.
-pub fn register(reading: &Reading, a: &mut [u8], b: &mut [u8]) -> Result<usize, Refusal> {
+/// Reports the register, and returns l and whether another one is as short: 5, 21.
+pub fn register(reading: &Reading, a: &mut [u8], b: &mut [u8]) -> Result<Reported, Refusal> {
     demand(a.len() == A_BYTES && b.len() == B_BYTES, Refusal::Buffer)?;
     let held = check_reading(reading)?;
-    Ok(write_register(&register_of(held.modulus, &held.terms), a, b))
+    Ok(report(&held, &register_of(held.modulus, &held.terms), a, b))
 }
 
-/// Writes a and b into buffers of the right lengths and returns l.
-fn write_register(register: &Register, a: &mut [u8], b: &mut [u8]) -> usize {
+/// Writes a and b into buffers of the right lengths; what a report of the register of these
+/// terms returns.
+fn report(held: &Sequence, register: &Register, a: &mut [u8], b: &mut [u8]) -> Reported {
     write_cells(a, &register.a);
     write_cells(b, &register.b);
-    register.length
+    (register.length, only(held.modulus, held.terms.len(), register.length))
 }
 
-/// Reports the register, returns l, and fills the sheet with the records of the steps:
+/// Reports the register as above, and fills the sheet with the records of the steps:
 /// 5 (a), 5 (b), 21, 5 (the sheet). 02, A1: "A sheet of fewer records than n times the
 /// sum of the e gets 5, which for the sheet comes after 21." A longer sheet is legal:
 /// "Records past the last are unchanged."
@@ -202,7 +207,7 @@ pub fn trace(
     a: &mut [u8],
     b: &mut [u8],
     sheet: &mut [StepRecord],
-) -> Result<usize, Refusal> {
+) -> Result<Reported, Refusal> {
     demand(a.len() == A_BYTES, Refusal::Buffer)?;
     demand(b.len() == B_BYTES, Refusal::Buffer)?;
     let held = check_reading(reading)?;
@@ -211,7 +216,7 @@ pub fn trace(
     let histories = histories(held.modulus, &held.terms);
     let records = sheet_of(&histories);
     sheet[..records.len()].copy_from_slice(&records);
-    Ok(write_register(&register_after(&histories, n), a, b))
+    Ok(report(&held, &register_after(&histories, n), a, b))
 }
 
 /// Reports the profile, zero past n: 5, 21.

@@ -6,25 +6,27 @@ use crate::checks::Group;
 use crate::join;
 use crate::limits::*;
 use crate::listing::listing;
+use crate::only::Only::{self, *};
 use crate::refusals::Refusal;
 use crate::residue::PrimePower;
 use crate::sequences::set_cell;
 use crate::steps::{length, run, Case, Pair, StepRecord};
 use crate::working::{working, working_lines};
 
-/// A case that names l, a_0 .. a_l and the first cells of b.
-type Named<'a> = (u64, &'a [u64], usize, &'a [u64], &'a [u64]);
+/// A case that names l, a_0 .. a_l and the first cells of b, and whether another register is
+/// as short (02, A8).
+type Named<'a> = (u64, &'a [u64], usize, &'a [u64], &'a [u64], Only);
 
 const NAMED: [Named; 9] = [
-    (2, &[], 0, &[1], &[]),
-    (5, &[0, 0, 0], 0, &[1], &[]),
-    (9, &[6, 3, 1, 5, 6], 3, &[1, 4, 7, 1], &[6, 0, 1]),
-    (4, &[2, 2], 1, &[1, 3], &[2]),
-    (4, &[2, 1], 2, &[1, 0, 0], &[2, 1]),
-    (2, &[0, 0, 1], 3, &[1, 0, 0, 0], &[0, 0, 1]),
-    (6, &[3, 3], 1, &[1, 3], &[3]),
-    (7, &[1, 1, 2, 3, 5, 1], 2, &[1, 6, 6], &[1, 0]),
-    (6, &[1, 0], 1, &[1, 0], &[1]),
+    (2, &[], 0, &[1], &[], Sole),
+    (5, &[0, 0, 0], 0, &[1], &[], Sole),
+    (9, &[6, 3, 1, 5, 6], 3, &[1, 4, 7, 1], &[6, 0, 1], NotTold),
+    (4, &[2, 2], 1, &[1, 3], &[2], NotTold),
+    (4, &[2, 1], 2, &[1, 0, 0], &[2, 1], NotTold),
+    (2, &[0, 0, 1], 3, &[1, 0, 0, 0], &[0, 0, 1], Several),
+    (6, &[3, 3], 1, &[1, 3], &[3], NotTold),
+    (7, &[1, 1, 2, 3, 5, 1], 2, &[1, 6, 6], &[1, 0], Sole),
+    (6, &[1, 0], 1, &[1, 0], &[1], NotTold),
 ];
 
 pub fn padded(numbers: &[u64], cells: usize) -> Vec<u64> {
@@ -67,18 +69,18 @@ pub fn reading_of(m: u64, terms: &[u64]) -> Reading {
 }
 
 /// The reply of a report and the cells of a and b after it.
-type Report = (Result<usize, Refusal>, Vec<u64>, Vec<u64>);
+type Report = (Result<Reported, Refusal>, Vec<u64>, Vec<u64>);
 
 fn report(m: u64, terms: &[u64]) -> Report {
     let (mut a, mut b) = ([0xff; A_BYTES], [0xff; B_BYTES]);
-    let l = register(&reading_of(m, terms), &mut a, &mut b);
-    (l, cells(&a), cells(&b))
+    let reply = register(&reading_of(m, terms), &mut a, &mut b);
+    (reply, cells(&a), cells(&b))
 }
 
 /// Cases 1 to 3 and 5 to 9 and 12 from the list, then the others.
 pub fn cases(group: &mut Group) {
-    for (m, terms, l, a, b) in NAMED {
-        let expected = (Ok(l), padded(a, A_CELLS), padded(b, B_CELLS));
+    for (m, terms, l, a, b, only) in NAMED {
+        let expected = (Ok((l, only)), padded(a, A_CELLS), padded(b, B_CELLS));
         let found = report(m, terms);
         group.check(found == expected, || format!("modulo {m} {terms:?}: {found:?}"));
     }
@@ -317,8 +319,8 @@ pub const LENT: [u32; 8] = [9, 8, 7, 6, 5, 4, 3, 2];
 fn traced(m: u64, terms: &[u64], room: usize) -> (Report, Vec<[u32; 8]>) {
     let (mut a, mut b) = ([0xff; A_BYTES], [0xff; B_BYTES]);
     let mut sheet = vec![StepRecord::of(LENT); room];
-    let l = trace(&reading_of(m, terms), &mut a, &mut b, &mut sheet);
-    ((l, cells(&a), cells(&b)), sheet.into_iter().map(StepRecord::numbers).collect())
+    let reply = trace(&reading_of(m, terms), &mut a, &mut b, &mut sheet);
+    ((reply, cells(&a), cells(&b)), sheet.into_iter().map(StepRecord::numbers).collect())
 }
 
 /// Sheets written out by hand, each record for itself, then the text of the working.
@@ -351,6 +353,7 @@ pub fn sheets_by_hand(group: &mut Group) {
 /// What `working_by_hand` has to get, header and all.
 const WORKING: &str = "modulus count order start register
 9 5 3 3 1,4,7,1
+not told
 power k row length u theta g case
 9 0 0 0 1 2 0 2
 9 0 1 0 2 1 2 1
@@ -364,6 +367,7 @@ power k row length u theta g case
 9 4 1 2 0 4 1 3
 refused 1
 6 2 1 1 1,3
+not told
 power k row length u theta g case
 2 0 0 0 0 1 0 2
 2 1 0 1 0 1 0 3
@@ -371,12 +375,14 @@ power k row length u theta g case
 3 1 0 0 1 1 1 1
 refused 3 at 2
 4 2 0 2 1
+not told
 power k row length u theta g case
 4 0 0 0 1 1 0 2
 4 0 1 0 2 1 2 1
 4 1 0 1 0 1 1 2
 4 1 1 0 1 1 0 3
 2 0 0 0 1
+sole
 power k row length u theta g case
 refused 5
 ";

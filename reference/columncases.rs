@@ -4,6 +4,7 @@ use crate::calls::*;
 use crate::cases::{bare, bytes_of, padded, term_at, told, Told};
 use crate::checks::Group;
 use crate::limits::*;
+use crate::only::Only::{self, *};
 use crate::orders::unsound;
 use crate::script::{hash, reading_from, replay, Call, Operation};
 
@@ -175,13 +176,13 @@ fn bytes_of_cells(group: &mut Group) {
     }
 }
 
-/// l, a and b of a report, and the profile, each less the zeros past its end.
-type Answer<'a> = (usize, &'a [u64], &'a [u64], &'a [u64]);
+/// What a report returns, its a and b, and the profile, each less the zeros past its end.
+type Answer<'a> = ((usize, Only), &'a [u64], &'a [u64], &'a [u64]);
 
 /// Cases 3 and 4 of 01, for 6,3,1,5,6 modulo 9.
-const CASE_3: Answer = (3, &[1, 4, 7, 1], &[6, 0, 1], &[0, 1, 1, 3, 3, 3]);
+const CASE_3: Answer = ((3, NotTold), &[1, 4, 7, 1], &[6, 0, 1], &[0, 1, 1, 3, 3, 3]);
 
-const NO_TERMS: Answer = (0, &[1], &[], &[0]);
+const NO_TERMS: Answer = ((0, NotTold), &[1], &[], &[0]);
 
 /// The length 1 for each k from 1 on.
 const LENGTH_1: [u64; PROFILE_CELLS] = {
@@ -196,18 +197,18 @@ const ANSWERS: [(u64, &[&[u64]], Answer); 9] = [
     (9, &[&[6, 3, 9, 5], &[1, 5, 6]], CASE_3),
     (9, &[&[], &[6], &[3, 10, 8], &[9], &[1, 5, 6, 65535]], CASE_3),
     // (6 + 3x)(1 + 4x) is 6 modulo 9, as far as x.
-    (9, &[&[6, 3, 9, 5]], (1, &[1, 4], &[6], &[0, 1, 1])),
+    (9, &[&[6, 3, 9, 5]], ((1, NotTold), &[1, 4], &[6], &[0, 1, 1])),
     (9, &[&[9, 6, 3]], NO_TERMS),
     (9, &[&[]], NO_TERMS),
     // Case 6, then case 7 with a wrong term in each column.
-    (4, &[&[2, 4], &[1]], (2, &[1], &[2, 1], &[0, 1, 2])),
-    (2, &[&[0, 2, 1], &[0, 3, 1], &[1, 2, 1]], (3, &[1], &[0, 0, 1], &[0, 0, 0, 3])),
+    (4, &[&[2, 4], &[1]], ((2, NotTold), &[1], &[2, 1], &[0, 1, 2])),
+    (2, &[&[0, 2, 1], &[0, 3, 1], &[1, 2, 1]], ((3, Several), &[1], &[0, 0, 1], &[0, 0, 0, 3])),
     // (1 + x + x^2 + ..)(1 + x) is 1 modulo 2; 128 terms are taken.
-    (2, &[&[1; 130]], (1, &[1, 1], &[1], &LENGTH_1)),
+    (2, &[&[1; 130]], ((1, Sole), &[1, 1], &[1], &LENGTH_1)),
 ];
 
 fn answers(group: &mut Group) {
-    for (m, columns, (l, a, b, lengths)) in ANSWERS {
+    for (m, columns, (reported, a, b, lengths)) in ANSWERS {
         let (mut reading, _) = open(m as u32);
         for list in columns {
             let _ = push_all(&mut reading, &bytes_of(list, list.len()));
@@ -215,7 +216,7 @@ fn answers(group: &mut Group) {
         let words = || format!("modulo {m}, {columns:?}");
         let (mut a_bytes, mut b_bytes) = ([0xff; A_BYTES], [0xff; B_BYTES]);
         let found = register(&reading, &mut a_bytes, &mut b_bytes);
-        let right = found == Ok(l)
+        let right = found == Ok(reported)
             && cells(&a_bytes) == padded(a, A_CELLS)
             && cells(&b_bytes) == padded(b, B_CELLS);
         group.check(right, || format!("{}: {found:?}", words()));
@@ -255,7 +256,7 @@ fn replayed(group: &mut Group) {
     let script = [
         (call(Open, 9, &[]), format!("open ok {fresh}")),
         (call(PushAll, 0, &good), String::from(ALL_TAKEN)),
-        (call(Register, 0, &[]), String::from("register length 3 c39cbc5e 396c93d2")),
+        (call(Register, 0, &[]), String::from("register length 3 not told c39cbc5e 396c93d2")),
         (call(Open, 9, &[]), format!("open ok {fresh}")),
         (call(PushAll, 0, &wrong), String::from(TWO_TAKEN)),
         (call(PushAll, 0, &[]), format!("push_all taken 0 ok {two} 811c9dc5")),

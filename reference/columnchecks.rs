@@ -8,6 +8,7 @@ use crate::columns::{bad_reading, column};
 use crate::join;
 use crate::limits::*;
 use crate::linear;
+use crate::onlychecks::expected_only;
 use crate::random::Random;
 use crate::refusals::Refusal;
 use crate::scenarios::{self, changes_reading};
@@ -200,15 +201,16 @@ fn check_after(group: &mut Group, reading: &Reading, taken: &Taken) {
     let slip = slip_of(*m, terms);
     group.check(reading_bytes(reading) == slip, words);
     let (mut a, mut b, mut lengths) = ([9; A_BYTES], [9; B_BYTES], [9; PROFILE_BYTES]);
-    let l = register(reading, &mut a, &mut b);
+    let reply = register(reading, &mut a, &mut b);
     let expected = join::register(*m, terms);
+    let only = expected_only(*m, terms.len(), expected.length);
     let same = cells(&a) == expected.a && cells(&b) == expected.b;
-    group.check(l == Ok(expected.length) && same, words);
+    group.check(reply == Ok((expected.length, only)) && same, words);
     group.check(profile(reading, &mut lengths) == Ok(()), words);
     let told: Vec<usize> = cells(&lengths).into_iter().map(|length| length as usize).collect();
     let (within, past) = told.split_at(terms.len() + 1);
     group.check(within == join::profile(*m, terms) && past.iter().all(|&cell| cell == 0), words);
-    group.check(l == Ok(within[terms.len()]), words);
+    group.check(reply.map(|(l, _)| l) == Ok(within[terms.len()]), words);
     if terms.len() <= 16 {
         group.check(within == linear::profile(*m, terms), words);
         let mut record = [9; RECORD_BYTES];

@@ -1,6 +1,6 @@
 //! What the random slips, scripts and typed lines meet: every refusal of every call, the
-//! places, the kinds of bad claims, of lines, of columns, of servings, and how the orders
-//! stand to the starts. The seeds are those that tests/expectations.sh uses.
+//! places, the kinds of bad claims, of lines, of columns, of servings, of answers of A8, and
+//! how the orders stand to the starts. The seeds are those that tests/expectations.sh uses.
 
 use crate::ask::{self, ask, LINE_LIMIT};
 use crate::calls::*;
@@ -11,6 +11,7 @@ use crate::faults::{faults, offending, Fault};
 use crate::limits::*;
 use crate::linecalls::linecalls;
 use crate::listing::listing;
+use crate::onlymet;
 use crate::scenarios;
 use crate::script::{line, reading_bytes, replay, Call, Operation};
 use crate::sequences;
@@ -63,8 +64,9 @@ pub fn met(group: &mut Group) {
     group.check(whole, || String::from("the script is whole"));
     let (listed, asked) = (named("listing", &listing(&slips)), named("ask", &ask(&input)));
     refusals_met(group, &[&text[..], &listed, &asked].concat());
-    let worked = named("working", &working(&sequences::slips(31, 160)));
-    starts_met(group, &[listed, worked, asked].concat());
+    let worked = working(&sequences::slips(46, 160));
+    starts_met(group, &[listed, named("working", &worked), asked].concat());
+    onlymet::met(group, &script, &text, &worked);
     slips_met(group, &slips);
     claims_met(group, &script);
     lines_met(group, &script, &input);

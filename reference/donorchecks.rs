@@ -92,7 +92,7 @@ fn expected(serving: &Serving, who: u64) -> Outcome {
 /// reports.
 fn reported(slip: &[u8]) -> Vec<u8> {
     let (mut a, mut b) = ([7; 258], [7; 256]);
-    let l = register(&reading_from(slip), &mut a, &mut b).map_or(65_535, |l| l as u16);
+    let l = register(&reading_from(slip), &mut a, &mut b).map_or(65_535, |(l, _)| l as u16);
     [slip, &l.to_le_bytes(), &a, &b].concat()
 }
 
@@ -222,7 +222,7 @@ fn check_fetched(
 ) {
     let (m, terms) = sequence;
     let (mut a, mut b) = ([7; 258], [7; 256]);
-    let l = register(&reading_of(*m, terms), &mut a, &mut b).map_or(65_535, |l| l as u16);
+    let l = register(&reading_of(*m, terms), &mut a, &mut b).map_or(65_535, |(l, _)| l as u16);
     let slip = slip_of(*m, terms);
     let report = [&slip[..], &l.to_le_bytes(), &a, &b].concat();
     let record = made(group, sequence);

@@ -339,8 +339,8 @@ fn end_marks(group: &mut Group) {
     let of_six = "2 0 0 0 0 1 0 2\n2 1 0 1 0 1 0 3\n3 0 0 0 1 1 1 1\n3 1 0 0 1 1 1 1";
     let of_four = "4 0 0 0 1 1 0 2\n4 0 1 0 2 1 2 1\n4 1 0 1 0 1 1 2\n4 1 1 0 1 1 0 3";
     let expected = [
-        format!("{HEADER}\n6 2 1 1 1,3\n{sheet}\n{of_six}\nrefused 27 at 6\n"),
-        format!("4 2 0 2 1\n{sheet}\n{of_four}\n2 0 0 0 1\n{sheet}\n"),
+        format!("{HEADER}\n6 2 1 1 1,3\nnot told\n{sheet}\n{of_six}\nrefused 27 at 6\n"),
+        format!("4 2 0 2 1\nnot told\n{sheet}\n{of_four}\n2 0 0 0 1\nsole\n{sheet}\n"),
     ]
     .concat();
     group.check(text == expected, || text.clone());

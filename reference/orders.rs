@@ -6,6 +6,7 @@ use crate::checks::Group;
 use crate::join;
 use crate::limits::*;
 use crate::listing::{listing, HEADER};
+use crate::only::Only::*;
 use crate::refusals::Refusal;
 use crate::script::{hash, reading_bytes, replay, Call, Operation};
 use crate::sequences::set_cell;
@@ -461,9 +462,9 @@ fn short_sheets(group: &mut Group) {
     let full = reading_of(2048, &[1; TERMS_LIMIT]);
     let (a, b) = (A_BYTES, B_BYTES);
     let mut orders = vec![
-        (good.clone(), a, b, 10, Ok(3)),
-        (good.clone(), a, b, 11, Ok(3)),
-        (good.clone(), a, b, SHEET_LIMIT, Ok(3)),
+        (good.clone(), a, b, 10, Ok((3, NotTold))),
+        (good.clone(), a, b, 11, Ok((3, NotTold))),
+        (good.clone(), a, b, SHEET_LIMIT, Ok((3, NotTold))),
         (good.clone(), a, b, 9, Err(bare(5))),
         (good.clone(), a, b, 0, Err(bare(5))),
         (good.clone(), a - 1, b, 10, Err(bare(5))),
@@ -471,10 +472,10 @@ fn short_sheets(group: &mut Group) {
         (good.clone(), a, b - 1, 10, Err(bare(5))),
         (good.clone(), a, b + 1, 10, Err(bare(5))),
         (good.clone(), 0, 0, 0, Err(bare(5))),
-        (fresh.clone(), a, b, 0, Ok(0)),
-        (fresh.clone(), a, b, 1, Ok(0)),
+        (fresh.clone(), a, b, 0, Ok((0, NotTold))),
+        (fresh.clone(), a, b, 1, Ok((0, NotTold))),
         (fresh.clone(), a, 0, 0, Err(bare(5))),
-        (full.clone(), a, b, 128 * 11, Ok(1)),
+        (full.clone(), a, b, 128 * 11, Ok((1, NotTold))),
         (full.clone(), a, b, 128 * 11 - 1, Err(bare(5))),
     ];
     for reading in unsound() {

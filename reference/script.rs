@@ -1,6 +1,6 @@
 //! The byte script of calls, and its replay as text. README.md has the format.
 
-use crate::calls::{self, Reading, Served, Verdict};
+use crate::calls::{self, Reading, Reported, Served, Verdict};
 use crate::limits::{SHEET_LIMIT, SLIP_BYTES};
 use crate::refusals::Refusal;
 use crate::steps::StepRecord;
@@ -212,9 +212,7 @@ fn perform(
             outcome.map(ok)
         }
         Operation::Push => calls::push(reading, call.number).map(ok),
-        Operation::Register => {
-            calls::register(reading, first, second).map(|l| format!("length {l}"))
-        }
+        Operation::Register => calls::register(reading, first, second).map(reported_word),
         Operation::Profile => calls::profile(reading, first).map(ok),
         Operation::Verify => calls::verify(first, second, third, call.number).map(verdict_word),
         Operation::Generate => {
@@ -231,7 +229,7 @@ fn perform(
         Operation::Trace => {
             let (outcome, filled) = traced(call, reading, first, second);
             *third = filled;
-            outcome.map(|l| format!("length {l}"))
+            outcome.map(reported_word)
         }
         Operation::ReadLine => calls::read_line(first, second).map(ok),
         Operation::PushAll => {
@@ -251,7 +249,7 @@ fn traced(
     reading: &Reading,
     a: &mut [u8],
     b: &mut [u8],
-) -> (Result<usize, Refusal>, Vec<u8>) {
+) -> (Result<Reported, Refusal>, Vec<u8>) {
     let lent = StepRecord::of([u32::from_le_bytes([call.fill; 4]); 8]);
     let mut sheet = vec![lent; (call.number as usize).min(SHEET_LIMIT)];
     let outcome = calls::trace(reading, a, b, &mut sheet);
@@ -263,6 +261,10 @@ fn traced(
 /// The eight numbers of a record, four bytes each, low byte first.
 pub fn record_bytes(record: StepRecord) -> Vec<u8> {
     record.numbers().into_iter().flat_map(u32::to_le_bytes).collect()
+}
+
+fn reported_word((length, only): Reported) -> String {
+    format!("length {length} {only}")
 }
 
 fn verdict_word(verdict: Verdict) -> String {

@@ -18,6 +18,7 @@ use crate::linecalls;
 use crate::linecases;
 use crate::linechecks;
 use crate::listing::listing;
+use crate::onlychecks;
 use crate::orders;
 use crate::random::Random;
 use crate::refusals::Refusal;
@@ -31,7 +32,7 @@ use crate::steps::{self, coefficient, length, Pair};
 use crate::typed;
 
 /// The groups in the order in which they run.
-const GROUPS: [(&str, fn(&mut Group)); 39] = [
+const GROUPS: [(&str, fn(&mut Group)); 43] = [
     ("cases 1 to 15", cases::cases),
     ("tables 1 and 2 of 000", cases::tables),
     ("sheets and their text by hand", cases::sheets_by_hand),
@@ -71,6 +72,10 @@ const GROUPS: [(&str, fn(&mut Group)); 39] = [
     ("accession numbers, servings by their bytes", donorchecks::by_bytes),
     ("accession numbers, hidden from visitors", donorchecks::hidden),
     ("accession numbers, fetched records", donorchecks::fetched),
+    ("the only one, by hand", onlychecks::by_hand),
+    ("the only one, all lists of coefficients", onlychecks::all_lists),
+    ("the only one, long sequences by rank", onlychecks::by_rank),
+    ("the only one, every modulus", onlychecks::every_modulus),
 ];
 
 /// True if every group passes.
@@ -286,7 +291,7 @@ fn report_after_calls(group: &mut Group, m: u64, terms: &[u64]) -> (u32, Vec<u8>
     group.check(a == [0xa5; A_BYTES] && b == [0x5a; B_BYTES], words);
     let l = register(&reading, &mut a, &mut b);
     group.check(l.is_ok(), words);
-    (l.unwrap_or(0) as u32, a, b)
+    (l.map_or(0, |(l, _)| l as u32), a, b)
 }
 
 /// The record made for a slip, served alike from a shelf and from an empty one, to an

@@ -8,6 +8,7 @@ use crate::compact;
 use crate::join;
 use crate::limits::*;
 use crate::listing::listing;
+use crate::onlychecks::expected_only;
 use crate::random::Random;
 use crate::refusals::Refusal;
 use crate::residue::{prime_powers, PrimePower};
@@ -172,11 +173,11 @@ pub fn tracings(group: &mut Group) {
         let words = || format!("modulo {m}: {terms:?}");
         let fill = random.byte();
         let (mut a, mut b) = ([fill; A_BYTES], [fill; B_BYTES]);
-        let length = register(&reading, &mut a, &mut b);
+        let reported = register(&reading, &mut a, &mut b);
         let more = random.pick(&[0, 1, 2, 50, SHEET_LIMIT - sheet.len()]);
         let expected = [&sheet[..], &vec![StepRecord::of([LENT; 8]); more]].concat();
         let traced = trace_into(&reading, expected.len(), fill);
-        group.check(traced == (length, a, b, expected), words);
+        group.check(traced == (reported, a, b, expected), words);
         if !sheet.is_empty() {
             let any = random.place(sheet.len());
             let less = random.pick(&[0, any, sheet.len() - 1]);
@@ -189,7 +190,7 @@ pub fn tracings(group: &mut Group) {
 }
 
 /// The reply of a tracing, a, b and the sheet after it.
-type Traced = (Result<usize, Refusal>, [u8; A_BYTES], [u8; B_BYTES], Vec<StepRecord>);
+type Traced = (Result<Reported, Refusal>, [u8; A_BYTES], [u8; B_BYTES], Vec<StepRecord>);
 
 fn trace_into(reading: &Reading, room: usize, fill: u8) -> Traced {
     let (mut a, mut b) = ([fill; A_BYTES], [fill; B_BYTES]);
@@ -242,10 +243,10 @@ fn script_by_hand(group: &mut Group) {
     let script: Vec<u8> = calls.iter().flat_map(Call::bytes).collect();
     let (text, whole) = replay(&script);
     let lines: Vec<&str> = text.lines().collect();
-    let hashes = lines[6].strip_prefix("register length 3 ").unwrap_or("");
+    let hashes = lines[6].strip_prefix("register length 3 not told ").unwrap_or("");
     let bytes: Vec<u8> =
         SHEET_OF_TABLE_2.iter().flat_map(|&record| record_bytes(StepRecord::of(record))).collect();
-    let filled = format!("trace length 3 {hashes} {:08x}", hash(&bytes));
+    let filled = format!("trace length 3 not told {hashes} {:08x}", hash(&bytes));
     let lent = |number: u32, a: usize, b: usize| {
         let (a, b) = (hash(&vec![0xee; a]), hash(&vec![0xee; b]));
         format!("trace refused {number} {a:08x} {b:08x} 811c9dc5")
@@ -264,15 +265,16 @@ fn script_by_hand(group: &mut Group) {
     ];
     group.check(whole && lines.len() == 18, || text.clone());
     // The hashes were also computed apart from this program.
-    let told = "trace length 3 c39cbc5e 396c93d2 a4dd8c8e";
+    let told = "trace length 3 not told c39cbc5e 396c93d2 a4dd8c8e";
     group.check(lines[7] == told, || format!("{} for {told}", lines[7]));
     for (place, line) in expected {
         group.check(lines[place] == line, || format!("{} for {line}", lines[place]));
     }
 }
 
-/// The text of a working less its sheets. Each sheet, read back from the text and
-/// applied, gives the register of the line before it.
+/// The text of a working less its sheets and the lines before them, which tell whether another
+/// register is as short. Each sheet, read back from the text and applied, gives the register of
+/// the listing's line.
 fn without_sheets(group: &mut Group, text: &str) -> String {
     let mut listed = String::new();
     let mut lines = text.lines();
@@ -280,6 +282,8 @@ fn without_sheets(group: &mut Group, text: &str) -> String {
         listed.push_str(line);
         listed.push('\n');
         let Some(told) = read_back(line) else { continue };
+        let only = expected_only(told.modulus, told.count, told.start).to_string();
+        group.check(lines.next() == Some(only.as_str()), || format!("{only} after {line}"));
         group.check(lines.next() == Some(SHEET_HEADER), || format!("header after {line}"));
         let records = lines.by_ref().take(join::sheet_size(told.modulus, told.count));
         let sheet: Vec<StepRecord> = records.map(record_read).collect();

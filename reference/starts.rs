@@ -71,7 +71,7 @@ type Tally = BTreeMap<(&'static str, &'static str), usize>;
 
 const KINDS_OF_MODULI: [&str; 3] = ["a prime", "a higher power of one", "several primes"];
 
-fn kind_of_modulus(m: u64) -> &'static str {
+pub fn kind_of_modulus(m: u64) -> &'static str {
     match prime_powers(m)[..] {
         [power] if power.e == 1 => "a prime",
         [_] => "a higher power of one",

@@ -28,7 +28,7 @@ mkdir -p "$output/replay" "$output/listing" "$output/working" "$output/ask"
 
 # 160 queries with their sheets, then such a piece.
 {
-    "$reference" slips 31 160
+    "$reference" slips 46 160
     head -c 100 /dev/zero
 } >"$output/working/stdin"
 "$reference" working <"$output/working/stdin" >"$output/working/stdout"

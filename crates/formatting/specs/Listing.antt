@@ -11,6 +11,8 @@ use Rattle.sequence.specs.declared.Sequence.{Sequence}
 use Rattle.sequence.specs.declared.Refusal.{Refusal}
 use Rattle.sequence.specs.declared.Outcome.{Outcome}
 use Rattle.sequence.specs.declared.Outcome.the-variants as O
+use Rattle.sequence.specs.declared.Uniqueness.{Uniqueness}
+use Rattle.sequence.specs.declared.Uniqueness.the-variants as U
 use Rattle.sequence.specs.declared.Reported.{Reported}
 use Rattle.sequence.specs.declared.Reported.the-variants as P
 use Rattle.sequence.specs.Limits.{aBytes}
@@ -64,8 +66,17 @@ queryLine query = lineOf (checkOf query) (sequenceOf query)
 
 -- the line of a register that is reported for a sequence: by the length replied and the cells of a
 abbrev pub reportedLine : Sequence → Reported → List ℕ → List ℕ
-reportedLine s (P.Length l) a = registerLine (s .modulus) (s .count) l (aCells a)
+reportedLine s (P.Length l w) a = registerLine (s .modulus) (s .count) l (aCells a)
 reportedLine s (P.Refused r) a = refusalLine r
+
+-- whether a register is the only one, in words, and as the line below the register's in a working
+abbrev pub uniquenessText : Uniqueness → List ℕ
+uniquenessText U.Sole = bytes "sole"
+uniquenessText U.Several = bytes "several"
+uniquenessText U.NotTold = bytes "not told"
+
+abbrev pub uniquenessLine : Uniqueness → List ℕ
+uniquenessLine w = uniquenessText w ++ bytes "\n"
 
 -- the line that answers a typed line: its refusal, or the line of the query that it becomes
 abbrev pub answerLine : Outcome → Found → List ℕ

@@ -9,6 +9,7 @@ use sequence::QUERY_BYTES;
 use sequence::Refusal;
 use sequence::Reported;
 use sequence::Sequence;
+use sequence::Uniqueness;
 use steps::CELLS;
 ghost use mathlib.Core.Path.{_≡_};
 ghost use mathlib.Core.List.{[], _∷_};
@@ -23,7 +24,7 @@ ghost use Rattle.sequence.specs.Answers.{placed};
 ghost use Rattle.candidate.specs.Rules.{aCells};
 ghost use Rattle.catalogue.specs.Rules.{recordBytes};
 ghost use Rattle.formatting.specs.Text.{numeral, eachAfter, separated, Put};
-ghost use Rattle.formatting.specs.Listing.{lineBytes, header, registerLine, recordLine, placeText, refusalText, refusalLine, queryLine, reportedLine, typedLine};
+ghost use Rattle.formatting.specs.Listing.{lineBytes, header, registerLine, recordLine, placeText, refusalText, refusalLine, queryLine, reportedLine, uniquenessText, uniquenessLine, typedLine};
 
 // Room for the longest line: four numbers and the coefficients, each with at most 20 digits and a byte beside them.
 pub const LINE_BYTES: usize = 21 * (4 + CELLS);
@@ -216,8 +217,32 @@ pub fn reported_line(s: Sequence, r: Reported, a: &[u8], out: &mut [u8]) -> usiz
 {
     match r {
         Reported::Refused(why) => refusal_line(why, out),
-        Reported::Length(l) => register_line(s.modulus, s.count, l, a, out),
+        Reported::Length(l, _) => register_line(s.modulus, s.count, l, a, out),
     }
+}
+
+// Whether a register is the only one, in words; the line may go on.
+pub fn uniqueness_text(w: Uniqueness, out: &mut [u8]) -> usize
+    requires { ⌜ length (now out) ≡ lineBytes ⌝ }
+    ensures { λ n. ⌜ Counts n (now (out .exit)) ⌝ }
+    ensures { λ n. ⌜ Put (now (out .entry)) 0 (uniquenessText w) (now (out .exit)) n ⌝ }
+    ensures { λ n. ⌜ n ≤ 8 ⌝ }
+{
+    match w {
+        Uniqueness::Sole => put(b"sole", out, 0),
+        Uniqueness::Several => put(b"several", out, 0),
+        Uniqueness::NotTold => put(b"not told", out, 0),
+    }
+}
+
+// The line below the register's in a working.
+pub fn uniqueness_line(w: Uniqueness, out: &mut [u8]) -> usize
+    requires { ⌜ length (now out) ≡ lineBytes ⌝ }
+    ensures { λ n. ⌜ Counts n (now (out .exit)) ⌝ }
+    ensures { λ n. ⌜ Put (now (out .entry)) 0 (uniquenessLine w) (now (out .exit)) n ⌝ }
+{
+    let end = uniqueness_text(w, out);
+    put(b"\n", out, end)
 }
 
 // The line that answers a typed line.

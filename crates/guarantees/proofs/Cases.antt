@@ -16,13 +16,13 @@ use Rattle.recurrence.specs.Register.{part, parts, complexity, register}
 use Rattle.recurrence.specs.Running.{cell, generated, firstDifference}
 use Rattle.synthesis.specs.Synthesis.{lengthAt}
 use Rattle.sequence.specs.Rules.{faultOf, openOf, pushOf, sequenceOf, checkOf}
-use Rattle.sequence.specs.Report.{reportOf, profileOf}
+use Rattle.sequence.specs.Report.{uniquenessBy, reportOf, profileOf}
 use Rattle.candidate.specs.Rules.{flawOf, judgeOf, verifyOf, generateOf}
 use Rattle.guarantees.specs.Calls.{afterAll}
 use Rattle.guarantees.specs.Cases.{reply, lengths, run, Cases}
 
 pub cases : Cases
-unfolding tabulate largest first all every sumTo bytesOf neg inverse valuation cofactor leastDivisor leastPower powersUpTo primePowers joined conv plus times up top degree len discrepancy caseOf partner multiplier change remembered older noOlder next history rowAt part parts complexity register cell generated firstDifference faultOf openOf pushOf sequenceOf checkOf reportOf profileOf lengthAt flawOf judgeOf verifyOf generateOf afterAll reply lengths run
+unfolding tabulate largest first all every sumTo bytesOf neg inverse valuation cofactor leastDivisor leastPower powersUpTo primePowers joined conv plus times up top degree len discrepancy caseOf partner multiplier change remembered older noOlder next history rowAt part parts complexity register cell generated firstDifference faultOf openOf pushOf sequenceOf checkOf uniquenessBy reportOf profileOf lengthAt flawOf judgeOf verifyOf generateOf afterAll reply lengths run
 cases =
     record {
       case1 = refl;

@@ -20,10 +20,9 @@ use Rattle.sequence.specs.declared.Sequence.{Sequence}
 use Rattle.sequence.specs.declared.Outcome.{Outcome}
 use Rattle.sequence.specs.declared.Outcome.the-variants.{Done}
 use Rattle.sequence.specs.declared.Reported.{Reported}
-use Rattle.sequence.specs.declared.Reported.the-variants.{Length}
 use Rattle.sequence.specs.Limits.{maxModulus, maxTerms, maxCells, aBytes, bBytes, profileBytes}
 use Rattle.synthesis.specs.Synthesis.{lengthAt}
-use Rattle.sequence.specs.Report.{registerOf, aBuffer, bBuffer, profileBuffer, reportOf, written, profileOf, filled}
+use Rattle.sequence.specs.Report.{lengthTold, registerOf, aBuffer, bBuffer, profileBuffer, reportOf, written, profileOf, filled}
 use Rattle.guarantees.specs.Calls.{taken}
 use Rattle.guarantees.specs.Claims.{ShownBy, Demand3}
 use Rattle.guarantees.proofs.State.{holding, padded, padded-at, Good, sound-for, opens, state, good}
@@ -49,10 +48,10 @@ module _ (m : ℕ) (least : 2 ≤ m) (most : m ≤ maxModulus) (ts : List ℕ) (
   right = register-right m big ts (length ts)
 
   -- what is written where a call is not refused
-  pub reported : (a b : List ℕ) → length a ≡ aBytes → length b ≡ bBytes → reportOf (holding m ts) a b ≡ Length (T.register m ts (length ts) .length)
+  pub reported : (a b : List ℕ) → length a ≡ aBytes → length b ≡ bBytes → reportOf (holding m ts) a b ≡ lengthTold m (length ts) (T.register m ts (length ts) .length)
   unfolding reportOf
   reported a b ha hb =
-      rw (eq-eqb (length a) aBytes ha, eq-eqb (length b) bBytes hb, sound-for m least most ts g) (ap (λ (x : Register). Length (x .length)) same-register)
+      rw (eq-eqb (length a) aBytes ha, eq-eqb (length b) bBytes hb, sound-for m least most ts g) (ap (λ (x : Register). lengthTold m (length ts) (x .length)) same-register)
 
   pub profiled : (cells : List ℕ) → length cells ≡ profileBytes → profileOf (holding m ts) cells ≡ Done
   unfolding profileOf

@@ -2,9 +2,11 @@ pub mod State
 pub mod Columns
 pub mod Demand
 pub mod Working
+pub mod Only
 pub mod Records
 pub mod Visitors
 pub mod Cases
+pub mod Counted
 pub mod Numbers
 pub mod Driving
 pub mod Testing

@@ -73,7 +73,7 @@ every-order m low high calls a b ha hb =
     (ordered m low high (taken m calls) (good m low high calls) a b ha hb)
 
 told : Reported → ℕ
-told (Length l) = l
+told (Length l w) = l
 told (Refused r) = zero
 
 pub the-listing : TheListing

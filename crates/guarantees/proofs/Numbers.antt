@@ -17,6 +17,7 @@ use Rattle.recurrence.specs.Working.{caseNumber, partnerTold, stepAt, stepsAt, 
 use Rattle.recurrence.specs.Running.{cell, generated, firstDifference}
 use Rattle.sequence.specs.Answers.{firstOf}
 use Rattle.sequence.specs.Rules.{faultOf, checkOf, openOf, pushOf, sequenceOf}
+use Rattle.sequence.specs.Report.{uniquenessBy}
 use Rattle.sequence.specs.Trace.{traceOf}
 use Rattle.column.specs.Rules.{eachOf, pushAllOf, eachAnswer}
 use Rattle.candidate.specs.Rules.{flawOf, judgeOf, verifyAnswer, generateAnswer}
@@ -25,7 +26,7 @@ use Rattle.guarantees.specs.Calls.{afterAll}
 use Rattle.guarantees.specs.Numbers.{Numbers, Orders}
 
 pub numbers : Numbers
-unfolding tabulate largest first all every sumTo bytesOf equal neg inverse valuation cofactor leastDivisor leastPower powersUpTo primePowers joined conv plus times up top degree len discrepancy caseOf partner multiplier change remembered older noOlder next history rowAt part parts complexity register caseNumber partnerTold stepAt stepsAt stepsOver sheetOf rowsOver traceOf cell generated firstDifference firstOf faultOf checkOf openOf pushOf afterAll sequenceOf eachOf pushAllOf eachAnswer flawOf judgeOf verifyAnswer generateAnswer layout recordOf synthesizeAnswer isOf firstMatch passes fetchOf lookUpOf lookUpAnswer
+unfolding tabulate largest first all every sumTo bytesOf equal neg inverse valuation cofactor leastDivisor leastPower powersUpTo primePowers joined conv plus times up top degree len discrepancy caseOf partner multiplier change remembered older noOlder next history rowAt part parts complexity register caseNumber partnerTold stepAt stepsAt stepsOver sheetOf rowsOver uniquenessBy traceOf cell generated firstDifference firstOf faultOf checkOf openOf pushOf afterAll sequenceOf eachOf pushAllOf eachAnswer flawOf judgeOf verifyAnswer generateAnswer layout recordOf synthesizeAnswer isOf firstMatch passes fetchOf lookUpOf lookUpAnswer
 numbers =
     record {
       opened = refl;
@@ -115,7 +116,7 @@ numbers =
     }
 
 pub orders : Orders
-unfolding tabulate largest first all every sumTo bytesOf equal neg inverse valuation cofactor leastDivisor leastPower powersUpTo primePowers joined conv plus times up top degree len discrepancy caseOf partner multiplier change remembered older noOlder next history rowAt part parts complexity register caseNumber partnerTold stepAt stepsAt stepsOver sheetOf rowsOver traceOf cell generated firstDifference firstOf faultOf checkOf openOf pushOf afterAll sequenceOf eachOf pushAllOf eachAnswer flawOf judgeOf verifyAnswer generateAnswer layout recordOf synthesizeAnswer isOf firstMatch passes fetchOf lookUpOf lookUpAnswer
+unfolding tabulate largest first all every sumTo bytesOf equal neg inverse valuation cofactor leastDivisor leastPower powersUpTo primePowers joined conv plus times up top degree len discrepancy caseOf partner multiplier change remembered older noOlder next history rowAt part parts complexity register caseNumber partnerTold stepAt stepsAt stepsOver sheetOf rowsOver uniquenessBy traceOf cell generated firstDifference firstOf faultOf checkOf openOf pushOf afterAll sequenceOf eachOf pushAllOf eachAnswer flawOf judgeOf verifyAnswer generateAnswer layout recordOf synthesizeAnswer isOf firstMatch passes fetchOf lookUpOf lookUpAnswer
 orders =
     record {
       push-21-22 = refl;

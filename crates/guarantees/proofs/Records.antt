@@ -26,10 +26,9 @@ use Rattle.sequence.specs.declared.Refusal.the-variants as R
 use Rattle.sequence.specs.declared.Outcome.{Outcome}
 use Rattle.sequence.specs.declared.Outcome.the-variants.{Done, Refused}
 use Rattle.sequence.specs.declared.Reported.{Reported}
-use Rattle.sequence.specs.declared.Reported.the-variants.{Length}
 use Rattle.sequence.specs.Limits.{maxModulus, queryBytes, aBytes, bBytes, maxCells, maxTerms}
 use Rattle.sequence.specs.Rules.{openOf, sequenceOf, checkOf, IsSound}
-use Rattle.sequence.specs.Report.{registerOf, aBuffer, bBuffer, reportOf, written, filled}
+use Rattle.sequence.specs.Report.{lengthTold, registerOf, aBuffer, bBuffer, reportOf, written, filled}
 use Rattle.sequence.proofs.Laws.{check-done}
 use Rattle.candidate.specs.declared.Verdict.the-variants as W
 use Rattle.candidate.specs.Rules.{aCells, bCells, IsFine, judgeOf}
@@ -126,7 +125,7 @@ module _ (query : List ℕ) (fine : checkOf query ≡ Done) where
       → length a ≡ aBytes → length b ≡ bBytes → AgreesWith (cellAt query 0) calls a b entry
   agrees entry same calls a b h ha hb =
       record {
-        length-same = answer ∙ ap Length (sym (entry-length-cell query (sequenceOf query) size entry same small));
+        length-same = answer ∙ ap (lengthTold (cellAt query 0) (length (taken (cellAt query 0) calls))) (sym (entry-length-cell query (sequenceOf query) size entry same small));
         a-same =
             ap₂ (λ (r : Reported) (t : Sequence). written r (aBuffer t) a) answer reached ∙ sym (entry-a query (sequenceOf query) size entry same);
         b-same =
@@ -136,11 +135,11 @@ module _ (query : List ℕ) (fine : checkOf query ≡ Done) where
       reached : afterAll (openOf (cellAt query 0) .sequence) calls ≡ sequenceOf query
       reached = state (cellAt query 0) least most calls ∙ ap (holding (cellAt query 0)) h ∙ held
 
-      answer : reportOf (afterAll (openOf (cellAt query 0) .sequence) calls) a b ≡ Length (registerOf (sequenceOf query) .length)
+      answer : reportOf (afterAll (openOf (cellAt query 0) .sequence) calls) a b ≡ lengthTold (cellAt query 0) (length (taken (cellAt query 0) calls)) (registerOf (sequenceOf query) .length)
       answer =
           ap (λ (t : Sequence). reportOf t a b) (reached ∙ sym held)
           ∙ reported (cellAt query 0) least most (termsOf query) good a b ha hb
-          ∙ ap Length (sym (same-length) ∙ ap (λ (t : Sequence). registerOf t .length) held)
+          ∙ ap₂ (λ (ts : List ℕ) (l : ℕ). lengthTold (cellAt query 0) (length ts) l) (sym h) (sym same-length ∙ ap (λ (t : Sequence). registerOf t .length) held)
         where
           same-length : registerOf (holding (cellAt query 0) (termsOf query)) .length ≡ register (cellAt query 0) (termsOf query) (length (termsOf query)) .length
           same-length = ap (λ (y : Register). y .length) (same-register (cellAt query 0) least most (termsOf query) good)

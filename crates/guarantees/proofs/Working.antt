@@ -18,9 +18,9 @@ use Rattle.steps.specs.Log.{stepRecord, stepOf}
 use Rattle.sequence.specs.declared.Sequence.{Sequence}
 use Rattle.sequence.specs.declared.Refusal.the-variants.{Buffer}
 use Rattle.sequence.specs.declared.Reported.{Reported}
-use Rattle.sequence.specs.declared.Reported.the-variants.{Length, Refused}
+use Rattle.sequence.specs.declared.Reported.the-variants.{Refused}
 use Rattle.sequence.specs.Limits.{maxModulus, maxTerms, maxCells, aBytes, bBytes}
-use Rattle.sequence.specs.Report.{registerOf, aBuffer, bBuffer, written}
+use Rattle.sequence.specs.Report.{lengthTold, registerOf, registerTold, aBuffer, bBuffer, written}
 use Rattle.sequence.specs.Trace.{recordsOf, traceOf, sheetFilled}
 use Rattle.guarantees.specs.Calls.{taken}
 use Rattle.guarantees.specs.Claims.{WorkedBy, TooShort, EveryTrace, TheWorking}
@@ -60,7 +60,7 @@ module _ (m : ℕ) (least : 2 ≤ m) (most : m ≤ maxModulus) (ts : List ℕ) (
       }
 
   module _ (room : length ts * rows ≤ length lent) where
-    is-done : traceOf s a b (length lent) ≡ Length (registerOf s .length)
+    is-done : traceOf s a b (length lent) ≡ registerTold s
     unfolding traceOf
     is-done = rw (eq-eqb (length a) aBytes ha, eq-eqb (length b) bBytes hb, sound-for m least most ts g, le-leb (length ts * rows) (length lent) room)
 
@@ -73,7 +73,7 @@ module _ (m : ℕ) (least : 2 ≤ m) (most : m ≤ maxModulus) (ts : List ℕ) (
     works : WorkedBy m ts s a b lent
     works =
         record {
-          reported = is-done ∙ ap (λ (x : Register). Length (x .length)) same;
+          reported = is-done ∙ ap (λ (x : Register). lengthTold m (length ts) (x .length)) same;
           a-cells = ap (λ (r : Reported). written r (aBuffer s) a) is-done ∙ ap (λ (x : Register). bytesOf (tabulate maxCells (at (x .a)))) same;
           b-cells = ap (λ (r : Reported). written r (bBuffer s) b) is-done ∙ ap (λ (x : Register). bytesOf (tabulate maxTerms (at (x .b)))) same;
           records = stored;

@@ -20,10 +20,10 @@ use Rattle.sequence.specs.declared.Outcome.{Outcome}
 use Rattle.sequence.specs.declared.Outcome.the-variants.{Done}
 use Rattle.sequence.specs.declared.Reported.{Reported}
 use Rattle.sequence.specs.declared.Refusal.the-variants.{Buffer}
-use Rattle.sequence.specs.declared.Reported.the-variants.{Length, Refused}
+use Rattle.sequence.specs.declared.Reported.the-variants.{Refused}
 use Rattle.sequence.specs.Limits.{maxModulus, maxTerms, maxCells, aBytes, bBytes, profileBytes}
 use Rattle.sequence.specs.Rules.{openOf, sequenceOf, checkOf}
-use Rattle.sequence.specs.Report.{reportOf, aBuffer, bBuffer, written, profileOf, profileBuffer, filled}
+use Rattle.sequence.specs.Report.{lengthTold, reportOf, aBuffer, bBuffer, written, profileOf, profileBuffer, filled}
 use Rattle.sequence.specs.Trace.{recordsOf, traceOf, sheetFilled}
 use Rattle.candidate.specs.declared.Verdict.the-variants.{Yes, No}
 use Rattle.candidate.specs.Rules.{aCells, bCells, flawOf, verifyOf, generateOf, generatedIn}
@@ -34,7 +34,7 @@ use Rattle.guarantees.specs.Calls.{Call, push, afterAll, taken}
 -- What a register and a profile of the terms ts modulo m must show: r and o are their replies, and a, b and cells the lent buffers at exit.
 pub record Shows (m : ℕ) (ts : List ℕ) (r : Reported) (o : Outcome) (a b cells : List ℕ) : Type 0 where
   -- neither is refused
-  pub reported : r ≡ Length (T.register m ts (length ts) .length)
+  pub reported : r ≡ lengthTold m (length ts) (T.register m ts (length ts) .length)
   pub profiled : o ≡ Done
   -- the register written is the one that the steps, joined by remainders, give for the terms
   pub a-cells : a ≡ bytesOf (tabulate maxCells (at (T.register m ts (length ts) .a)))
@@ -70,7 +70,7 @@ Demand3 = (m : ℕ) → 2 ≤ m → m ≤ maxModulus → EveryList m
 -- What a trace of the terms ts modulo m must show: r is its reply, a, b and sheet what was lent to it, at exit; the sheet was `lent`.
 pub record Works (m : ℕ) (ts : List ℕ) (r : Reported) (a b : List ℕ) (lent sheet : List StepRecord) : Type 0 where
   -- it is not refused, and the register is the one that a register of the same terms shows
-  pub reported : r ≡ Length (T.register m ts (length ts) .length)
+  pub reported : r ≡ lengthTold m (length ts) (T.register m ts (length ts) .length)
   pub a-cells : a ≡ bytesOf (tabulate maxCells (at (T.register m ts (length ts) .a)))
   pub b-cells : b ≡ bytesOf (tabulate maxTerms (at (T.register m ts (length ts) .b)))
   -- the sheet holds the working of the terms, and past its last record what was lent
@@ -123,7 +123,7 @@ termsOf query = take (cellAt query 1) (sequenceOf query .terms)
 
 -- the length and the cells in a record are those that the register gives after the calls, lent buffers a and b
 pub record AgreesWith (m : ℕ) (calls : List Call) (a b entry : List ℕ) : Type 0 where
-  pub length-same : reportOf (afterAll (openOf m .sequence) calls) a b ≡ Length (cellAt entry lengthCell)
+  pub length-same : reportOf (afterAll (openOf m .sequence) calls) a b ≡ lengthTold m (length (taken m calls)) (cellAt entry lengthCell)
   pub a-same :
       written (reportOf (afterAll (openOf m .sequence) calls) a b) (aBuffer (afterAll (openOf m .sequence) calls)) a ≡ take aBytes (drop aPlace entry)
   pub b-same :

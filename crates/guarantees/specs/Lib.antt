@@ -2,6 +2,7 @@ pub mod Calls
 pub mod Claims
 pub mod Visitors
 pub mod Cases
+pub mod Only
 pub mod Numbers
 pub mod Refusals
 pub mod Coded

@@ -16,10 +16,9 @@ use Rattle.recurrence.specs.Least.{Least}
 use Rattle.sequence.specs.declared.Sequence.{Sequence}
 use Rattle.sequence.specs.declared.Outcome.the-variants.{Done}
 use Rattle.sequence.specs.declared.Reported.{Reported}
-use Rattle.sequence.specs.declared.Reported.the-variants.{Length}
 use Rattle.sequence.specs.Limits.{maxModulus, aBytes, bBytes}
 use Rattle.sequence.specs.Rules.{openOf, checkOf, queryOf}
-use Rattle.sequence.specs.Report.{reportOf, aBuffer, written, filled}
+use Rattle.sequence.specs.Report.{lengthTold, reportOf, aBuffer, written, filled}
 use Rattle.lines.specs.Form.{isDigit, decimal}
 use Rattle.candidate.specs.Rules.{aCells}
 use Rattle.catalogue.specs.Rules.{recordBytes, recordOf, synthesizeOf, lookUpOf, servedIn}
@@ -51,7 +50,7 @@ pub record OrderAndStart (m : ℕ) (ts a : List ℕ) (order start : ℕ) : Type 
 -- What a register of the terms ts must show: r is its reply, and a the lent buffer at exit.
 pub record Ordered (m : ℕ) (ts : List ℕ) (r : Reported) (a : List ℕ) : Type 0 where
   pub start : ℕ
-  pub reported : r ≡ Length start
+  pub reported : r ≡ lengthTold m (length ts) start
   pub means : OrderAndStart m ts (aCells a) (degree (aCells a)) start
 
 -- the buffer a after a register of the sequence

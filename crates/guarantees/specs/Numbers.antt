@@ -112,10 +112,10 @@ pub record Numbers : Type 0 where
   pub column-ends-full :
       pushAllOf (forged 2 127 []) (bytesOf (1 ∷ 0 ∷ 0 ∷ []))
       ≡ record { sequence = forged 2 128 (replicate 127 0 ++ (1 ∷ [])); taken = 1; outcome = Refused Full }
-  pub reported : registerTo (after 9 (6 ∷ 3 ∷ 1 ∷ 5 ∷ 6 ∷ [])) ≡ granted (3 ∷ [])
+  pub reported : registerTo (after 9 (6 ∷ 3 ∷ 1 ∷ 5 ∷ 6 ∷ [])) ≡ granted (3 ∷ 0 ∷ [])
   pub profiled : profileTo (after 9 (6 ∷ 3 ∷ 1 ∷ 5 ∷ 6 ∷ [])) ≡ granted []
-  pub traced : traceTo (after 9 (6 ∷ 3 ∷ 1 ∷ 5 ∷ 6 ∷ [])) 10 ≡ granted (3 ∷ [])
-  pub traced-longer : traceTo (after 9 (6 ∷ 3 ∷ 1 ∷ 5 ∷ 6 ∷ [])) 11 ≡ granted (3 ∷ [])
+  pub traced : traceTo (after 9 (6 ∷ 3 ∷ 1 ∷ 5 ∷ 6 ∷ [])) 10 ≡ granted (3 ∷ 0 ∷ [])
+  pub traced-longer : traceTo (after 9 (6 ∷ 3 ∷ 1 ∷ 5 ∷ 6 ∷ [])) 11 ≡ granted (3 ∷ 0 ∷ [])
   pub traced-sheet :
       stored (after 6 (3 ∷ 3 ∷ [])) (replicate 5 blank)
       ≡ step 2 0 0 0 0 1 0 2 ∷ step 2 1 0 1 0 1 0 3 ∷ step 3 0 0 0 1 1 1 1 ∷ step 3 1 0 0 1 1 1 1 ∷ blank ∷ []

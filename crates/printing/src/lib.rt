@@ -4,6 +4,7 @@ use libc::STDOUT_FILENO;
 use sequence::Refusal;
 use sequence::Reported;
 use sequence::Sequence;
+use sequence::Uniqueness;
 ghost use mathlib.Core.Path.{_≡_};
 ghost use lib.ListN.{length};
 ghost use Rattle.sequence.specs.Limits.{aBytes};
@@ -48,6 +49,19 @@ pub fn reported_line(s: Sequence, r: Reported, a: &[u8])
 {
     let mut out = [0u8; LINE_BYTES];
     let n = formatting::reported_line(s, r, a, &mut out);
+    text(&out[..n]);
+}
+
+// Whether a register is the only one, in words; the line may go on.
+pub fn uniqueness(w: Uniqueness) {
+    let mut out = [0u8; LINE_BYTES];
+    let n = formatting::uniqueness_text(w, &mut out);
+    text(&out[..n]);
+}
+
+pub fn uniqueness_line(w: Uniqueness) {
+    let mut out = [0u8; LINE_BYTES];
+    let n = formatting::uniqueness_line(w, &mut out);
     text(&out[..n]);
 }
 

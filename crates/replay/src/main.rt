@@ -69,9 +69,11 @@ fn outcome(o: Outcome) {
 
 fn reported(r: Reported) {
     match r {
-        Reported::Length(l) => {
+        Reported::Length(l, w) => {
             printing::text(b"length ");
             printing::number(l as u64);
+            printing::text(b" ");
+            printing::uniqueness(w);
         }
         Reported::Refused(r) => printing::refused(r),
     }

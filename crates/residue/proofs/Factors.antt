@@ -81,13 +81,14 @@ least-divisor-prime m p x = record { big = x .big; bare = λ d lo hi z. x .none 
 prime-divisor : (p : ℕ) → Prime p → leastDivisor p ≡ p
 prime-divisor p P = sym (is-least-divisor p p (P .big) (record { big = P .big; most = le-refl p; divides = mod-self p; none = P .bare }))
 
+-- `_` and omega, so that of a test that leaves 2 out this is refused
+pub prime-test : (p : ℕ) → Prime p → isPrime p ≡ true
+prime-test p P = both-true (le-leb _ p (omega (arith, P .big))) (eq-eqb (leastDivisor p) p (prime-divisor p P))
+
 pub test-prime : (p : ℕ) → isPrime p ≡ true → Prime p
 test-prime p h =
     subst Prime (eqb-true (leastDivisor p) p (both-right (leb 2 p) (eqb (leastDivisor p) p) h))
     (least-divisor-prime p (leastDivisor p) (least-divisor p (leb-true 2 p (both-left (leb 2 p) (eqb (leastDivisor p) p) h))))
-
-pub prime-test : (p : ℕ) → Prime p → isPrime p ≡ true
-prime-test p P = both-true (le-leb 2 p (P .big)) (eq-eqb (leastDivisor p) p (prime-divisor p P))
 
 -- ---- its power in m
 

@@ -2,7 +2,7 @@
 -- Assumes nothing.
 use mathlib.Core.Path.{_≡_, refl, ap, _∙_}
 use mathlib.Core.Bool.{Bool, true, false, not}
-use mathlib.Core.List.{List, [], _∷_, _++_}
+use mathlib.Core.List.{List, [], _++_}
 use Prim.Native.Nat.{ℕ}
 use lib.Dec.{ltb, leb, eqb}
 use lib.ListN.{length}
@@ -18,7 +18,7 @@ use Rattle.sequence.specs.declared.Pushed.{Pushed}
 use Rattle.sequence.specs.Limits.{maxTerms, queryBytes, aBytes, bBytes, profileBytes}
 use Rattle.sequence.specs.Answers.{Answer, granted, refused, refusedAt, refusal, outcomeAnswer, reportedAnswer, firstOf}
 use Rattle.sequence.specs.Rules.{outside, firstLarge, zeroFrom, faultOf, isSound, fresh, openOf, openAnswer, longer, pushOf, pushAnswer, sequenceOf, checkOf, queryRefusals}
-use Rattle.sequence.specs.Report.{registerOf, reportOf, reportAnswer, profileOf, profileAnswer}
+use Rattle.sequence.specs.Report.{registerTold, registerAnswer, reportOf, reportAnswer, profileOf, profileAnswer}
 
 -- ---- the calls that hold a sequence
 
@@ -58,13 +58,10 @@ pub report-told : (s : Sequence) (a b : List ℕ) {r : Reported} {A B : Type 0} 
 unfolding reportOf firstOf
 report-told s a b e x y = (e, (x, (y, ap reportedAnswer e ∙ go (eqb (length a) aBytes) (eqb (length b) bBytes) (isSound (faultOf s)))))
   where
-    l : ℕ
-    l = registerOf s .length
-
     go :
         (x y z : Bool)
-        → reportedAnswer (pick x (pick y (pick z (P.Length l) (P.Refused R.Sequence)) (P.Refused R.Buffer)) (P.Refused R.Buffer))
-        ≡ pick (not x) (refused 5) (pick (not y) (refused 5) (pick (not z) (refused 21) (granted (l ∷ []))))
+        → reportedAnswer (pick x (pick y (pick z (registerTold s) (P.Refused R.Sequence)) (P.Refused R.Buffer)) (P.Refused R.Buffer))
+        ≡ pick (not x) (refused 5) (pick (not y) (refused 5) (pick (not z) (refused 21) (registerAnswer s)))
     go false y z = refl
     go true false z = refl
     go true true false = refl

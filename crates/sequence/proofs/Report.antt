@@ -11,11 +11,15 @@ use borrow.Rule.Slice.PartMut.{putMid}
 use Rattle.lists.specs.Table.{at}
 use Rattle.lists.proofs.Table.{length-tabulate}
 use Rattle.lists.proofs.Search.{lt-or-le}
+use Rattle.recurrence.proofs.Register.{register-right}
 use Rattle.synthesis.specs.declared.Synthesis.{Synthesis}
 use Rattle.synthesis.specs.Synthesis.{synthesisOf}
 use Rattle.sequence.specs.Limits.{maxCells, maxTerms, aBytes, bBytes, registerBytes}
 use Rattle.sequence.specs.declared.Sequence.{Sequence}
+use Rattle.sequence.specs.declared.Uniqueness.{Uniqueness}
+use Rattle.sequence.specs.declared.Reported.the-variants.{Length}
 use Rattle.sequence.specs.Rules.{IsSound}
+use Rattle.sequence.specs.Report.{uniquenessBy, registerTold}
 
 module _ (x : Synthesis) (s : Sequence) (h : x ≡ synthesisOf (s .modulus) (s .terms) (s .count)) where
   pub long-a : length (x .a) ≡ maxCells
@@ -29,6 +33,15 @@ module _ (x : Synthesis) (s : Sequence) (h : x ≡ synthesisOf (s .modulus) (s .
   pub long-lengths : length (x .lengths) ≡ maxCells
   unfolding synthesisOf
   long-lengths = ap (λ (z : Synthesis). length (z .lengths)) h ∙ length-tabulate maxCells _
+
+  pub short-length : IsSound s → x .length ≤ maxTerms
+  unfolding synthesisOf
+  short-length f = omega (arith, ap (λ (z : Synthesis). z .length) h, register-right (s .modulus) (f .least) (s .terms) (s .count) .short, f .count)
+
+  -- what is replied
+  pub told : (w : Uniqueness) → w ≡ uniquenessBy (x .prime) (s .count) (x .length) → Length (x .length) w ≡ registerTold s
+  unfolding synthesisOf
+  told w e = ap (Length (x .length)) e ∙ ap (λ (z : Synthesis). Length (z .length) (uniquenessBy (z .prime) (s .count) (z .length))) h
 
 -- every cell of a sound sequence is small
 pub small-terms : (s : Sequence) → IsSound s → (i : ℕ) → i < maxTerms → at (s .terms) i < 65536

@@ -24,13 +24,14 @@ use Rattle.synthesis.proofs.Logging.{read-sheet}
 use Rattle.sequence.specs.declared.Sequence.{Sequence}
 use Rattle.sequence.specs.declared.Refusal.{Refusal}
 use Rattle.sequence.specs.declared.Refusal.the-variants as R
+use Rattle.sequence.specs.declared.Uniqueness.{Uniqueness}
 use Rattle.sequence.specs.declared.Reported.{Reported}
 use Rattle.sequence.specs.declared.Reported.the-variants as P
 use Rattle.sequence.specs.declared.Worked.{Worked}
 use Rattle.sequence.specs.Limits.{aBytes, bBytes}
-use Rattle.sequence.specs.Answers.{granted, refused, reportedAnswer, firstOf}
+use Rattle.sequence.specs.Answers.{refused, reportedAnswer, firstOf}
 use Rattle.sequence.specs.Rules.{faultOf, isSound, IsSound}
-use Rattle.sequence.specs.Report.{registerOf, aBuffer, bBuffer, written}
+use Rattle.sequence.specs.Report.{registerTold, registerAnswer, aBuffer, bBuffer, written}
 use Rattle.sequence.specs.Trace.{recordsOf, sheetSize, traceOf, traceAnswer, sheetFilled, wordsOf, countOf, workOf, unworked}
 use Rattle.sequence.proofs.Laws.{sound-of}
 
@@ -46,17 +47,17 @@ zeros-long = length-replicate logWords zero
 -- ---- the reply
 
 -- a trace that is not refused is of a sound sequence, and the sheet has room
-pub traced : (s : Sequence) (a b : List ℕ) (n l : ℕ) → traceOf s a b n ≡ P.Length l → IsSound s × (sheetSize s ≤ n)
+pub traced : (s : Sequence) (a b : List ℕ) (n l : ℕ) (w : Uniqueness) → traceOf s a b n ≡ P.Length l w → IsSound s × (sheetSize s ≤ n)
 unfolding traceOf
-traced s a b n l h = go (eqb (length a) aBytes) (eqb (length b) bBytes) (isSound (faultOf s)) (leb (sheetSize s) n) refl refl h
+traced s a b n l u h = go (eqb (length a) aBytes) (eqb (length b) bBytes) (isSound (faultOf s)) (leb (sheetSize s) n) refl refl h
   where
     isLength : Reported → Bool
-    isLength (P.Length l) = true
+    isLength (P.Length l w) = true
     isLength (P.Refused r) = false
 
     go :
         (x y z w : Bool) → isSound (faultOf s) ≡ z → leb (sheetSize s) n ≡ w
-        → pick x (pick y (pick z (pick w (P.Length (registerOf s .length)) (P.Refused R.Buffer)) (P.Refused R.Sequence)) (P.Refused R.Buffer)) (P.Refused R.Buffer) ≡ P.Length l
+        → pick x (pick y (pick z (pick w (registerTold s) (P.Refused R.Buffer)) (P.Refused R.Sequence)) (P.Refused R.Buffer)) (P.Refused R.Buffer) ≡ P.Length l u
         → IsSound s × (sheetSize s ≤ n)
     go false y z w f g h = false-true (ap isLength h)
     go true false z w f g h = false-true (ap isLength h)
@@ -69,13 +70,10 @@ pub trace-told : (s : Sequence) (a b : List ℕ) (n : ℕ) {r : Reported} → r 
 unfolding traceOf firstOf
 trace-told s a b n e = ap reportedAnswer e ∙ go (eqb (length a) aBytes) (eqb (length b) bBytes) (isSound (faultOf s)) (leb (sheetSize s) n)
   where
-    l : ℕ
-    l = registerOf s .length
-
     go :
         (x y z w : Bool)
-        → reportedAnswer (pick x (pick y (pick z (pick w (P.Length l) (P.Refused R.Buffer)) (P.Refused R.Sequence)) (P.Refused R.Buffer)) (P.Refused R.Buffer))
-        ≡ pick (not x) (refused 5) (pick (not y) (refused 5) (pick (not z) (refused 21) (pick (not w) (refused 5) (granted (l ∷ [])))))
+        → reportedAnswer (pick x (pick y (pick z (pick w (registerTold s) (P.Refused R.Buffer)) (P.Refused R.Sequence)) (P.Refused R.Buffer)) (P.Refused R.Buffer))
+        ≡ pick (not x) (refused 5) (pick (not y) (refused 5) (pick (not z) (refused 21) (pick (not w) (refused 5) (registerAnswer s))))
     go false y z w = refl
     go true false z w = refl
     go true true false w = refl
@@ -145,9 +143,10 @@ pub work-refused : (s : Sequence) (a b : List ℕ) (n : ℕ) (log : List ℕ) {x
 work-refused s a b n log {x} e h =
     subst (λ (r : Worked). Promised s a b n log r a b log) (sym e) (ap (λ (r : Reported). record { reply = r; count = countOf r s }) (sym h), refl, refl, refl)
 
-pub work-done : (s : Sequence) (a b : List ℕ) (n l k : ℕ) → traceOf s a b n ≡ P.Length l → k ≡ sheetSize s → record { reply = P.Length l; count = k } ≡ workOf s a b n
-work-done s a b n l k h e =
-    ap (λ (c : ℕ). record { reply = P.Length l; count = c }) e ∙ ap (λ (r : Reported). record { reply = r; count = countOf r s }) (sym h)
+pub work-done : (s : Sequence) (a b : List ℕ) (n l : ℕ) (w : Uniqueness) (k : ℕ) → traceOf s a b n ≡ P.Length l w → k ≡ sheetSize s
+    → record { reply = P.Length l w; count = k } ≡ workOf s a b n
+work-done s a b n l w k h e =
+    ap (λ (c : ℕ). record { reply = P.Length l w; count = c }) e ∙ ap (λ (r : Reported). record { reply = r; count = countOf r s }) (sym h)
 
 -- the log has places for all words
 pub log-filled : (s : Sequence) (log : List ℕ) → IsSound s → length log ≡ logWords → overlaid (wordsOf s) log ≡ wordsOf s ++ drop (length (wordsOf s)) log
@@ -165,7 +164,7 @@ module _ (s : Sequence) (a b : List ℕ) (n : ℕ) (y : Worked) (e : y ≡ workO
   count-fits = go (y .reply) (sym reply-told) (y .count) count-told
     where
       go : (r : Reported) → traceOf s a b n ≡ r → (k : ℕ) → k ≡ countOf r s → (k ≤ n) × (k ≤ logWords)
-      go (P.Length l) f k g = let t = traced s a b n l f in (omega (arith, g, t .1), omega (arith, g, size-most s (t .0)))
+      go (P.Length l w) f k g = let t = traced s a b n l w f in (omega (arith, g, t .1), omega (arith, g, size-most s (t .0)))
       go (P.Refused r) f k g = (omega arith, omega arith)
 
   -- with all of them stored it is as promised
@@ -174,5 +173,5 @@ module _ (s : Sequence) (a b : List ℕ) (n : ℕ) (y : Worked) (e : y ≡ workO
   filling-all log w lent = ap₂ (λ (z : List ℕ) (k : ℕ). fillingOf z lent k) w count-told ∙ go (y .reply) (sym reply-told)
     where
       go : (r : Reported) → traceOf s a b n ≡ r → fillingOf (sheetFilled r (wordsOf s) zeros) lent (countOf r s) ≡ sheetFilled r (recordsOf s) lent
-      go (P.Length l) f = filled-sound s (traced s a b n l f .0) lent (drop (length (wordsOf s)) zeros)
+      go (P.Length l w) f = filled-sound s (traced s a b n l w f .0) lent (drop (length (wordsOf s)) zeros)
       go (P.Refused r) f = filling-none zeros lent

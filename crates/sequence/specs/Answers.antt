@@ -10,6 +10,8 @@ use Rattle.sequence.specs.declared.Place.{Place}
 use Rattle.sequence.specs.declared.Place.the-variants.{At, Nowhere}
 use Rattle.sequence.specs.declared.Outcome.{Outcome}
 use Rattle.sequence.specs.declared.Outcome.the-variants as O
+use Rattle.sequence.specs.declared.Uniqueness.{Uniqueness}
+use Rattle.sequence.specs.declared.Uniqueness.the-variants as U
 use Rattle.sequence.specs.declared.Reported.{Reported}
 use Rattle.sequence.specs.declared.Reported.the-variants as P
 
@@ -54,9 +56,15 @@ abbrev pub outcomeAnswer : Outcome → Answer
 outcomeAnswer O.Done = granted []
 outcomeAnswer (O.Refused r) = refusal r
 
--- a register's reply: its length
+-- whether a register is the only one, as a value
+abbrev pub uniqueness : Uniqueness → ℕ
+uniqueness U.NotTold = 0
+uniqueness U.Sole = 1
+uniqueness U.Several = 2
+
+-- a register's reply: its length, and that
 abbrev pub reportedAnswer : Reported → Answer
-reportedAnswer (P.Length l) = granted (l ∷ [])
+reportedAnswer (P.Length l w) = granted (l ∷ uniqueness w ∷ [])
 reportedAnswer (P.Refused r) = refusal r
 
 -- Refusals in their order: the answer beside the first test that holds, and the last one where none does.

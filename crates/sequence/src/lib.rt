@@ -14,7 +14,7 @@ ghost use Rattle.steps.specs.Sizes.{logWords};
 ghost use Rattle.synthesis.specs.Synthesis.{synthesisOf};
 ghost use Rattle.sequence.specs.Limits.{maxTerms, maxCells, queryBytes, aBytes, bBytes, registerBytes};
 ghost use Rattle.sequence.specs.Answers.{refusal, placed, outcomeAnswer, reportedAnswer};
-ghost use Rattle.sequence.specs.Report.{reportOf, reportAnswer, written, aBuffer, bBuffer, profileOf, profileAnswer, filled, profileBuffer};
+ghost use Rattle.sequence.specs.Report.{uniquenessBy, reportOf, reportAnswer, written, aBuffer, bBuffer, profileOf, profileAnswer, filled, profileBuffer};
 ghost use Rattle.sequence.specs.Trace.{recordsOf, traceOf, traceAnswer, sheetFilled, wordsOf, workOf, unworked};
 ghost use Rattle.sequence.specs.Rules.{IsSound, outside, firstLarge, zeroFrom, faultOf, isSound, fresh, openOf, openAnswer, pushOf, pushAnswer, sequenceOf, checkedOf};
 
@@ -73,9 +73,16 @@ pub enum Outcome {
     Refused(Refusal),
 }
 
-// What a register's reply is: its length.
+// Whether the register is the only one of its length that generates the terms. It is told for a prime modulus, and for no other.
+pub enum Uniqueness {
+    Sole,
+    Several,
+    NotTold,
+}
+
+// What a register's reply is: its length, and whether it is the only one.
 pub enum Reported {
-    Length(u32),
+    Length(u32, Uniqueness),
     Refused(Refusal),
 }
 
@@ -354,7 +361,22 @@ pub fn write_register(x: Synthesis, out: &mut [u8])
     write_b(&b, &mut out[A_BYTES..REGISTER_BYTES]);
 }
 
-// Writes the shortest register of the terms, a to 129 cells and b to 128, and replies its length.
+// Whether a register of length l, the least for n terms, is the only one. Modulo a prime it is where 2l ≤ n (the crate counting).
+// Rejected: sole for 2l = n + 1; several for 2l = n.
+fn sole_or_several(prime: bool, n: u32, l: u32) -> Uniqueness
+    requires { ⌜ l ≤ maxTerms ⌝ }
+    ensures { λ r. ⌜ r ≡ uniquenessBy prime n l ⌝ }
+{
+    if prime {
+        if 2 * l <= n {
+            return Uniqueness::Sole;
+        }
+        return Uniqueness::Several;
+    }
+    Uniqueness::NotTold
+}
+
+// Writes the shortest register of the terms, a to 129 cells and b to 128, and replies its length and whether it is the only one.
 // Rejected: one that leaves the cells as lent; one that writes a = 1 for every sequence.
 pub fn register(s: Sequence, a: &mut [u8], b: &mut [u8]) -> Reported
     ensures { λ r. ⌜ r ≡ reportOf s (now (a .entry)) (now (b .entry)) ⌝ }
@@ -374,7 +396,8 @@ pub fn register(s: Sequence, a: &mut [u8], b: &mut [u8]) -> Reported
         let xb = x.b;
         write_a(&xa, a);
         write_b(&xb, b);
-        return Reported::Length(x.length);
+        let w = sole_or_several(x.prime, s.count, x.length);
+        return Reported::Length(x.length, w);
     }
     Reported::Refused(Refusal::Sequence)
 }
@@ -412,8 +435,9 @@ pub fn work(s: Sequence, a: &mut [u8], b: &mut [u8], room: usize, log: &mut [u64
         let x = synthesis::trace(s.modulus, &s.terms, n, log);
         write_a(&x.a, a);
         write_b(&x.b, b);
+        let w = sole_or_several(x.prime, s.count, x.length);
         return Worked {
-            reply: Reported::Length(x.length),
+            reply: Reported::Length(x.length, w),
             count: count,
         };
     }

@@ -1,7 +1,8 @@
 -- The loop over the prime powers: what is joined so far, and that the last join gives the register.
 -- Assumes nothing.
 use mathlib.Core.Path.{_≡_, refl, sym, ap, ap₂, _∙_, subst}
-use mathlib.Core.Logic.{_⊎_, inl, inr}
+use mathlib.Core.Logic.{_⊎_, inl, inr, _≢_}
+use mathlib.Core.Bool.{Bool, true, false}
 use mathlib.Core.List.{List, [], _∷_}
 use Prim.Native.Nat.{ℕ, zero, _*_, _/_, _%_, _^_, _≤_, _<_}
 use native.Mathlib.Nat.{le-refl, le-antisymm, mul-mod-left, mul-mod-right, mod-lt, mul-le-mul-left, mul-le-mul-right, mul-one, pow-le-pow-left, pow-le-pow-right}
@@ -13,12 +14,12 @@ use Rattle.lists.specs.Table.{at, tabulate}
 use Rattle.lists.proofs.Among.{Among, here, there}
 use Rattle.lists.proofs.Table.{is-tabulate, at-tabulate}
 use Rattle.residue.specs.Congruence.{Cong}
-use Rattle.residue.specs.Units.{Coprime}
-use Rattle.residue.specs.Factors.{PrimePower, value, leastPower, primePowers}
+use Rattle.residue.specs.Units.{Coprime, Prime}
+use Rattle.residue.specs.Factors.{isPrime, PrimePower, value, leastPower, primePowers}
 use Rattle.residue.specs.Reduction.{scaleOf}
 use Rattle.residue.proofs.Congruence.{rfl, of-eq, tr, modulo, same-below, cong-divisor}
 use Rattle.residue.proofs.Units.{invertible-coprime, prime-power-coprime, coprime-left, coprime-right, coprime-product}
-use Rattle.residue.proofs.Factors.{least-prime, least-exponent, least-whole, least-parts, least-value, rest-pos, value-most, divides-trans, powers-more, powers-none}
+use Rattle.residue.proofs.Factors.{least-prime, least-exponent, least-whole, least-parts, least-value, rest-pos, value-most, divides-trans, test-prime, prime-test, factored, powers-more, powers-none, prime-powers, among-prime}
 use Rattle.recurrence.specs.Polynomial.{len}
 use Rattle.recurrence.specs.Register.{complexity, register}
 use Rattle.recurrence.proofs.Pairs.{conv-cong}
@@ -194,6 +195,39 @@ module _ {m : ℕ} {S : List ℕ} {n Q R : ℕ} {a lengths : List ℕ} (g : Gath
       (subst (λ (y : ℕ). Gathered m S n (Q * v) y a′ lengths′) (sym hr)
       (extended (subst (λ (y : Ring). Extended y S n Q a lengths a′ lengths′) same x) wide))
 
+-- ---- whether the modulus is prime
+
+-- the last prime split off is one of m's, as soon as there is one
+pub record Last (m Q last : ℕ) : Type 0 where
+  pub among : 1 < Q → (f : PrimePower) × Among f (primePowers m) × (last ≡ f .prime)
+
+pub last-start : (m : ℕ) → Last m 1 1
+last-start m = record { among = λ h. absurd (omega arith) }
+
+-- whatever is split off next
+pub last-next : {m : ℕ} {S : List ℕ} {n Q R : ℕ} {a lengths : List ℕ} → Gathered m S n Q R a lengths → 1 < R → (Q′ last : ℕ)
+    → last ≡ leastPower R .prime → Last m Q′ last
+last-next {R = R} g big Q′ last e =
+    record { among = λ h. (leastPower R, g .left (leastPower R) (subst (Among (leastPower R)) (sym (powers-more R big)) here), e) }
+
+among-one : {f g : PrimePower} {fs : List PrimePower} → fs ≡ g ∷ [] → Among f fs → f ≡ g
+among-one {f} {g} e h = go (first-or-later (subst (Among f) e h))
+  where
+    go : (f ≡ g) ⊎ Among f [] → f ≡ g
+    go (inl k) = k
+    go (inr k) = absurd (none-among k)
+
+-- a prime of m is m itself exactly when m is prime
+own-prime : (m : ℕ) (f : PrimePower) → 1 < m → Among f (primePowers m) → f .prime ≡ m → isPrime m ≡ true
+own-prime m f big h e = prime-test m (subst Prime e (among-prime (factored m (omega arith)) h))
+
+other-prime : (m : ℕ) (f : PrimePower) → Among f (primePowers m) → f .prime ≢ m → isPrime m ≡ false
+other-prime m f h ne = go (isPrime m) refl
+  where
+    go : (t : Bool) → isPrime m ≡ t → isPrime m ≡ false
+    go false e = e
+    go true e = absurd (ne (ap (λ (g : PrimePower). g .prime) (among-one (prime-powers m (test-prime m e)) h)))
+
 -- ---- the end: no prime power is left
 
 module _ {m : ℕ} {S : List ℕ} {n Q R : ℕ} {a lengths : List ℕ} (g : Gathered m S n Q R a lengths) (wide : 1 < m) (end : R ≤ 1) where
@@ -206,6 +240,16 @@ module _ {m : ℕ} {S : List ℕ} {n Q R : ℕ} {a lengths : List ℕ} (g : Gath
 
   same-Q : Q ≡ m
   same-Q = sym (mul-one Q) ∙ ap (λ (k : ℕ). Q * k) (let e : 1 ≡ R = omega (arith, g .more) in e) ∙ g .whole
+
+  pub gathered-prime : (last : ℕ) → Last m Q last → last ≡ m → isPrime m ≡ true
+  gathered-prime last x e =
+      let w = x .among (omega (arith, same-Q)) in
+      own-prime m (w .0) wide (w .1) (sym (w .2) ∙ e)
+
+  pub gathered-other : (last : ℕ) → Last m Q last → last ≢ m → isPrime m ≡ false
+  gathered-other last x ne =
+      let w = x .among (omega (arith, same-Q)) in
+      other-prime m (w .0) (w .1) (λ e. ne (w .2 ∙ e))
 
   pub gathered-a : a ≡ tabulate maxCells (at (register m S n .a))
   gathered-a =
@@ -255,9 +299,10 @@ module _ (m : ℕ) (S : List ℕ) (n : ℕ) (a lengths : List ℕ) (wide : 1 < m
           ∙ same-below (mod-lt _ (omega arith)) (R .small-b i) (tr (modulo _) (R .generates i (omega (arith, length-most))))
       go i h (no l) = s .above i (omega arith) ∙ sym (R .past-b i (omega (arith, length-is)))
 
-  pub synthesis-is : (b : List ℕ) → Starts S a (at lengths n) m b
-      → _≡_ {A = Synthesis} (record { length = at lengths n; a = a; b = b; lengths = lengths }) (synthesisOf m S n)
+  pub synthesis-is : (b : List ℕ) (prime : Bool) → Starts S a (at lengths n) m b → prime ≡ isPrime m
+      → _≡_ {A = Synthesis} (record { length = at lengths n; prime = prime; a = a; b = b; lengths = lengths }) (synthesisOf m S n)
   unfolding synthesisOf
-  synthesis-is b s =
-      ap₂ (λ (l : ℕ) (x : List ℕ). record { length = l; a = x; b = b; lengths = lengths }) length-is ha
-      ∙ ap₂ (λ (x y : List ℕ). record { length = register m S n .length; a = tabulate maxCells (at (register m S n .a)); b = x; lengths = y }) (b-is b s) hl
+  synthesis-is b prime s hp =
+      ap₂ (λ (l : ℕ) (x : List ℕ). record { length = l; prime = prime; a = x; b = b; lengths = lengths }) length-is ha
+      ∙ ap₂ (λ (x y : List ℕ). record { length = register m S n .length; prime = prime; a = tabulate maxCells (at (register m S n .a)); b = x; lengths = y }) (b-is b s) hl
+      ∙ ap (λ (t : Bool). record { length = register m S n .length; prime = t; a = tabulate maxCells (at (register m S n .a)); b = tabulate maxTerms (at (register m S n .b)); lengths = tabulate maxCells (lengthAt m S n) }) hp

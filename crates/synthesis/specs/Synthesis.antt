@@ -1,10 +1,12 @@
--- What `synthesize` and `trace` give: the definition's register, each list in full, and the linear complexity of every beginning of the terms.
+-- What `synthesize` and `trace` give: the definition's register, each list in full, the linear complexity of every beginning of the terms, and whether
+-- the modulus is prime.
 -- Assumes nothing.
 use mathlib.Core.List.{List}
 use Prim.Native.Nat.{ℕ, zero}
 use lib.Dec.{leb}
 use Rattle.lists.specs.Choice.{pick}
 use Rattle.lists.specs.Table.{at, tabulate}
+use Rattle.residue.specs.Factors.{isPrime}
 use Rattle.recurrence.specs.Register.{complexity, register}
 use Rattle.steps.specs.Sizes.{maxCells, maxTerms}
 use Rattle.synthesis.specs.declared.Synthesis.{Synthesis}
@@ -17,6 +19,7 @@ unfoldable pub synthesisOf : ℕ → List ℕ → ℕ → Synthesis
 synthesisOf m S n =
     record {
       length = register m S n .length;
+      prime = isPrime m;
       a = tabulate maxCells (at (register m S n .a));
       b = tabulate maxTerms (at (register m S n .b));
       lengths = tabulate maxCells (lengthAt m S n);

@@ -7,7 +7,7 @@ ghost use Prim.Native.Nat.{ℕ, _+_, _*_, _≤_, _<_};
 ghost use lib.ListN.{length, getD};
 ghost use Rattle.lists.specs.Table.{at, tabulate};
 ghost use Rattle.residue.specs.Units.{Coprime};
-ghost use Rattle.residue.specs.Factors.{divisorsEnd, primePowers};
+ghost use Rattle.residue.specs.Factors.{isPrime, divisorsEnd, primePowers};
 ghost use Rattle.recurrence.specs.Register.{register};
 ghost use Rattle.recurrence.specs.Working.{noStep, stepsAt, sheetOf, rowsOver};
 ghost use Rattle.steps.specs.Sizes.{maxTerms, maxCells, maxRows, logWords};
@@ -16,9 +16,10 @@ ghost use Rattle.steps.specs.Run.{Below, Setting};
 ghost use Rattle.synthesis.specs.Joining.{Glued, Raised, Extended, Starts};
 ghost use Rattle.synthesis.specs.Synthesis.{lengthAt, synthesisOf};
 
-// The shortest register of the first terms, and the linear complexity of the first 0, 1, .. of them.
+// The shortest register of the first terms, and the linear complexity of the first 0, 1, .. of them; and whether the modulus is prime.
 pub struct Synthesis {
     pub length: u32,
+    pub prime: bool,
     pub a: [u32; CELLS],
     pub b: [u32; TERMS],
     pub lengths: [u32; CELLS],
@@ -90,7 +91,9 @@ fn extend(
     join_cells(a, big, &row, ring.q);
 }
 
-// a and the lengths, and the records of the steps, from the prime powers of the modulus, the least prime first.
+// a and the lengths, and the records of the steps, from the prime powers of the modulus, the least prime first. Replies whether the modulus is
+// prime: the primes are at hand here, and looking its least divisor up once more would cost as much as many terms.
+// Rejected: a prime power taken for a prime; every modulus.
 fn gather(
     modulus: u32,
     terms: &[u32; TERMS],
@@ -98,15 +101,17 @@ fn gather(
     a: &mut [u32; CELLS],
     lengths: &mut [u32; CELLS],
     log: &mut [u64],
-)
+) -> bool
     requires { ⌜ (2 ≤ modulus) × (modulus < divisorsEnd) × (count ≤ maxTerms) × Below maxTerms 65536 (now terms) × (length (now a) ≡ maxCells)
         × Below maxCells 1 (now a) × (length (now lengths) ≡ maxCells) × Below maxCells 1 (now lengths) ⌝ }
-    ensures { λ _. ⌜ (now (a .exit) ≡ tabulate maxCells (at (register modulus (now (terms .entry)) count .a)))
+    ensures { λ r. ⌜ (now (a .exit) ≡ tabulate maxCells (at (register modulus (now (terms .entry)) count .a)))
         × (now (lengths .exit) ≡ tabulate maxCells (lengthAt modulus (now (terms .entry)) count))
-        × (now (log .exit) ≡ overlaid (words (sheetOf modulus (now (terms .entry)) count)) (now (log .entry))) ⌝ }
+        × (now (log .exit) ≡ overlaid (words (sheetOf modulus (now (terms .entry)) count)) (now (log .entry)))
+        × (r ≡ isPrime modulus) ⌝ }
 {
     let mut big: u32 = 1;
     let mut first: usize = 0;
+    let mut last: u32 = 1;
     let mut rest = modulus;
     while 1 < rest {
         let f = residue::split(rest);
@@ -120,8 +125,13 @@ fn gather(
         extend(ring, big, terms, count, a, lengths, log, first);
         big = big * f.value;
         first += count * f.exponent;
+        last = f.prime;
         rest = f.rest;
     }
+    if last == modulus {
+        return true;
+    }
+    false
 }
 
 // b from a: the register generates its terms, so that b_j is coefficient j of terms times a, and it has only l cells. So b is found
@@ -163,11 +173,12 @@ pub fn trace(modulus: u32, terms: &[u32; TERMS], count: usize, log: &mut [u64]) 
 {
     let mut a = [0u32; CELLS];
     let mut lengths = [0u32; CELLS];
-    gather(modulus, terms, count, &mut a, &mut lengths, log);
+    let prime = gather(modulus, terms, count, &mut a, &mut lengths, log);
     let length = lengths[count];
     let b = start_cells(&a, terms, length as usize, modulus);
     Synthesis {
         length: length,
+        prime: prime,
         a: a,
         b: b,
         lengths: lengths,

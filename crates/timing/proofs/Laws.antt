@@ -90,5 +90,5 @@ sum-told s a b n y e log w =
     ∙ go (y .reply)
   where
     go : (r : Reported) → allNumbers (sheetFilled r (recordsOf s) []) ≡ sumOf r s
-    go (P.Length l) = ap allNumbers (bare (recordsOf s) (length (recordsOf s)))
+    go (P.Length l w) = ap allNumbers (bare (recordsOf s) (length (recordsOf s)))
     go (P.Refused r) = refl

@@ -2,7 +2,7 @@
 -- Assumes nothing.
 use mathlib.Core.Bool.{Bool, not}
 use mathlib.Core.List.{List, [], _∷_}
-use Prim.Native.Nat.{ℕ, zero, _+_}
+use Prim.Native.Nat.{ℕ, zero, _+_, _*_}
 use lib.Dec.{ltb, leb}
 use Rattle.lists.specs.Choice.{pick, both}
 use Rattle.lists.specs.Search.{all}
@@ -15,6 +15,7 @@ use Rattle.steps.specs.declared.StepRecord.{StepRecord}
 use Rattle.sequence.specs.declared.Sequence.{Sequence}
 use Rattle.sequence.specs.declared.Reported.{Reported}
 use Rattle.sequence.specs.declared.Reported.the-variants as P
+use Rattle.sequence.specs.Answers.{uniqueness}
 use Rattle.sequence.specs.Rules.{outside}
 use Rattle.sequence.specs.Trace.{recordsOf}
 
@@ -46,10 +47,10 @@ rowLengths m S n = tabulate maxCells (λ k. pick (leb k n) (len (rowOf m S k)) z
 abbrev pub given : ℕ → ℕ → List ℕ → Sequence
 given m n S = record { modulus = m; count = n; terms = S }
 
--- the length that is replied; a refusal is 129, which no length is
-abbrev pub lengthOf : Reported → ℕ
-lengthOf (P.Length l) = l
-lengthOf (P.Refused r) = maxCells
+-- the length that is replied, and 2^32 times whether the register is the only one; a refusal is 129, which no length is
+abbrev pub repliedBy : Reported → ℕ
+repliedBy (P.Length l w) = l + 4294967296 * uniqueness w
+repliedBy (P.Refused r) = maxCells
 
 -- ---- the working
 
@@ -64,5 +65,5 @@ allNumbers (x ∷ xs) = numbersOf x + allNumbers xs
 
 -- the sum that is replied: over the records of the sequence's sheet; of a refusal, 0
 abbrev pub sumOf : Reported → Sequence → ℕ
-sumOf (P.Length l) s = allNumbers (recordsOf s)
+sumOf (P.Length l w) s = allNumbers (recordsOf s)
 sumOf (P.Refused r) s = zero

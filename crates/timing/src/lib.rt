@@ -3,6 +3,7 @@
 use sequence::Outcome;
 use sequence::Reported;
 use sequence::Sequence;
+use sequence::Uniqueness;
 use steps::CELLS;
 use steps::LOG;
 use steps::Ring;
@@ -15,11 +16,12 @@ ghost use Rattle.lists.specs.Sum.{sumTo};
 ghost use Rattle.lists.specs.Table.{at};
 ghost use Rattle.steps.specs.Sizes.{logWords};
 ghost use Rattle.steps.specs.Log.{unpacked};
+ghost use Rattle.sequence.specs.Answers.{uniqueness};
 ghost use Rattle.sequence.specs.Rules.{openOf};
 ghost use Rattle.sequence.specs.Report.{reportOf, written, aBuffer, bBuffer};
 ghost use Rattle.sequence.specs.Trace.{traceOf};
 ghost use Rattle.column.specs.Rules.{termsIn, eachOf, pushAllOf};
-ghost use Rattle.timing.specs.Entries.{low, fits, rowCells, rowLengths, given, lengthOf, numbersOf, sumOf};
+ghost use Rattle.timing.specs.Entries.{low, fits, rowCells, rowLengths, given, repliedBy, numbersOf, sumOf};
 
 // Whether every term is small enough for the products of the steps.
 fn are_low(s: &[u32; TERMS]) -> bool
@@ -78,7 +80,18 @@ pub extern "C" fn timing_steps(
     false
 }
 
-// The register of a sequence, by the public call. The reply is its length, or 129 where the call refuses.
+// Whether a register is the only one, as a value.
+fn value_of(w: Uniqueness) -> u64
+    ensures { λ r. ⌜ (r ≡ uniqueness w) × (r ≤ 2) ⌝ }
+{
+    match w {
+        Uniqueness::NotTold => 0,
+        Uniqueness::Sole => 1,
+        Uniqueness::Several => 2,
+    }
+}
+
+// The register of a sequence, by the public call. The reply is its length and 2^32 times that value, or 129 where the call refuses.
 // Rejected: one that replies the count; one that swaps a and b.
 #[no_mangle]
 pub extern "C" fn timing_register(
@@ -87,8 +100,8 @@ pub extern "C" fn timing_register(
     terms: &[u32; TERMS],
     a: &mut [u8],
     b: &mut [u8],
-) -> u32
-    ensures { λ r. ⌜ r ≡ lengthOf (reportOf (given m count (now (terms .entry))) (now (a .entry)) (now (b .entry))) ⌝ }
+) -> u64
+    ensures { λ r. ⌜ r ≡ repliedBy (reportOf (given m count (now (terms .entry))) (now (a .entry)) (now (b .entry))) ⌝ }
     ensures { λ _. ⌜ now (a .exit) ≡ written (reportOf (given m count (now (terms .entry))) (now (a .entry)) (now (b .entry)))
         (aBuffer (given m count (now (terms .entry)))) (now (a .entry)) ⌝ }
     ensures { λ _. ⌜ now (b .exit) ≡ written (reportOf (given m count (now (terms .entry))) (now (a .entry)) (now (b .entry)))
@@ -102,8 +115,8 @@ pub extern "C" fn timing_register(
     };
     let r = sequence::register(s, a, b);
     match r {
-        Reported::Length(l) => l,
-        Reported::Refused(_) => CELLS as u32,
+        Reported::Length(l, w) => (l as u64) + 4294967296 * value_of(w),
+        Reported::Refused(_) => CELLS as u64,
     }
 }
 

@@ -1,5 +1,5 @@
-// The working: queries on standard input, or typed lines where the one argument is "lines". For each the listing's line, then the records of
-// its steps as a table; or its refusal alone.
+// The working: queries on standard input, or typed lines where the one argument is "lines". For each the listing's line, whether that register is
+// the only one, then the records of its steps as a table; or its refusal alone.
 use input::CHUNK;
 use input::LINE_ROOM;
 use input::Taken;
@@ -54,7 +54,10 @@ fn show(s: Sequence) {
     printing::reported_line(s, reply, &a);
     match reply {
         Reported::Refused(_) => {}
-        Reported::Length(_) => table(&log, w.count),
+        Reported::Length(_, only) => {
+            printing::uniqueness_line(only);
+            table(&log, w.count);
+        }
     }
 }
 

@@ -6,11 +6,10 @@ use borrow.Author.Tests.{eq-eqb, ne-eqb}
 use Rattle.cells.specs.Cell.{bytesOf}
 use Rattle.synthesis.specs.declared.Synthesis.{Synthesis}
 use Rattle.synthesis.specs.Synthesis.{synthesisOf}
-use Rattle.sequence.specs.declared.Reported.the-variants.{Length}
 use Rattle.sequence.specs.Report.{reportOf}
 use Rattle.sequence.proofs.Laws.{sound-of}
 use Rattle.sequence.proofs.Answers.{report-told}
-use Rattle.sequence.proofs.Report.{long-a, long-b}
+use Rattle.sequence.proofs.Report.{long-a, long-b, short-length, told}
 use Rattle.sequence.proofs.register.Statement.{statement}
 use Rattle.sequence.proofs.register.Tie as tie
 
@@ -34,6 +33,11 @@ write-a-requires c κs = (long-a _ _ (c .before .before .before .before .solve .
 write-b-requires : tie.Need-write-b-requires
 write-b-requires c κs = (long-b _ _ (c .before .before .before .before .before .before .before .before .before .solve .ensures), search needs)
 
+sole-or-several-requires : tie.Need-sole-or-several-requires
+sole-or-several-requires c κs =
+    let v = c .before .before .before .before .before .before .before .before .before .before .before .before in
+    short-length _ _ (v .solve .ensures) (sound-of _ (sym (v .before .before .is-sound .ensures) ∙ v .before .if3 .taken))
+
 same-length : tie.Need-same-length
 same-length c = search needs
 
@@ -43,13 +47,13 @@ same-length-2 c = search needs
 returns-3 : tie.Need-returns-3
 unfolding reportOf synthesisOf
 returns-3 c =
-    let v = c .before .before .before .before .before .before .before .before .before .before .before .before in
+    let v = c .before .before .before .before .before .before .before .before .before .before .before .before .before in
     let g = v .before in
     let t = g .before .before .before .before .before .before .args in
     report-told (t .s) (t .a .now) (t .b .now)
-    (rw (eq-eqb _ _ (g .before .before .before .if1 .left), eq-eqb _ _ (g .before .before .if2 .left), ← g .before .is-sound .ensures, g .if3 .taken) (ap (λ (z : Synthesis). Length (z .length)) (v .solve .ensures)))
-    (c .before .before .before .before .before .before .before .write-a .ensures ∙ ap (λ (z : Synthesis). bytesOf (z .a)) (v .solve .ensures))
-    (c .before .before .write-b .ensures ∙ ap (λ (z : Synthesis). bytesOf (z .b)) (v .solve .ensures))
+    (rw (eq-eqb _ _ (g .before .before .before .if1 .left), eq-eqb _ _ (g .before .before .if2 .left), ← g .before .is-sound .ensures, g .if3 .taken) (told _ _ (v .solve .ensures) _ (c .sole-or-several .ensures)))
+    (c .before .before .before .before .before .before .before .before .write-a .ensures ∙ ap (λ (z : Synthesis). bytesOf (z .a)) (v .solve .ensures))
+    (c .before .before .before .write-b .ensures ∙ ap (λ (z : Synthesis). bytesOf (z .b)) (v .solve .ensures))
 
 returns-4 : tie.Need-returns-4
 unfolding reportOf
@@ -67,6 +71,7 @@ register-spec =
     solve-requires
     write-a-requires
     write-b-requires
+    sole-or-several-requires
     same-length
     same-length-2
     returns-3

@@ -9,11 +9,10 @@ use borrow.Author.Tests.{eq-eqb, ne-eqb, le-leb, lt-leb}
 use Rattle.cells.specs.Cell.{bytesOf}
 use Rattle.synthesis.specs.declared.Synthesis.{Synthesis}
 use Rattle.synthesis.specs.Synthesis.{synthesisOf}
-use Rattle.sequence.specs.declared.Reported.the-variants.{Length}
 use Rattle.sequence.specs.Trace.{sheetSize, traceOf}
 use Rattle.sequence.specs.Rules.{IsSound}
 use Rattle.sequence.proofs.Laws.{sound-of}
-use Rattle.sequence.proofs.Report.{long-a, long-b, small-terms}
+use Rattle.sequence.proofs.Report.{long-a, long-b, small-terms, short-length, told}
 use Rattle.sequence.proofs.Tracing.{work-refused, work-done, log-filled}
 use Rattle.sequence.proofs.work.Statement.{statement}
 use Rattle.sequence.proofs.work.Tie as tie
@@ -74,6 +73,12 @@ write-a-requires c κs = (long-a _ (c .before .before .before .before .before .b
 write-b-requires : tie.Need-write-b-requires
 write-b-requires c κs = (long-b _ (c .before .before .before .before .before .before .before .before .before .before .before .before .before .before .before .before .before .before .before .before .before .args .t1) (c .before .before .before .before .before .before .before .before .before .trace .ensures .0), search needs)
 
+sole-or-several-requires : tie.Need-sole-or-several-requires
+sole-or-several-requires c κs =
+    let v = c .before .before .before .before .before .before .before .before .before .before .before .before in
+    let g = v .before .before .before .before .before .before in
+    short-length _ (g .before .before .before .before .before .before .args .t1) (v .trace .ensures .0) (sound-of _ (sym (g .before .is-sound .ensures) ∙ g .if3 .taken))
+
 same-length : tie.Need-same-length
 same-length c = search needs
 
@@ -83,17 +88,17 @@ same-length-2 c = search needs
 returns-4 : tie.Need-returns-4
 unfolding traceOf synthesisOf
 returns-4 c =
-    let z = c .before .before .before .before .before .before .before .before .before .before .before .before .before .before .before .before .before .before .before .before .before .before .before .before in
+    let z = c .before .before .before .before .before .before .before .before .before .before .before .before .before .before .before .before .before .before .before .before .before .before .before .before .before in
     let v = z .args in
-    let sound = c .before .before .before .before .before .before .before .before .before .before .before .before .before .before .before .before .before .before .before .is-sound .ensures in
-    let h : IsSound (v .t1) = sound-of _ (sym sound ∙ c .before .before .before .before .before .before .before .before .before .before .before .before .before .before .before .before .before .before .if3 .taken) in
-    let x = c .before .before .before .before .before .before .before .before .before .before .before .before .trace .ensures in
-    let size : v .t1 .count * c .before .before .before .before .before .before .before .before .before .before .before .before .before .before .before .before .before .count-rows .result ≡ sheetSize (v .t1) = ap (λ (k : ℕ). v .t1 .count * k) (c .before .before .before .before .before .before .before .before .before .before .before .before .before .before .before .before .before .count-rows .ensures .0) in (
-      work-done (v .t1) (v .a .now) (v .b .now) (v .room) _ _
-          (rw (eq-eqb _ _ (c .before .before .before .before .before .before .before .before .before .before .before .before .before .before .before .before .before .before .before .before .before .if1 .left), eq-eqb _ _ (c .before .before .before .before .before .before .before .before .before .before .before .before .before .before .before .before .before .before .before .before .if2 .left), ← sound, c .before .before .before .before .before .before .before .before .before .before .before .before .before .before .before .before .before .before .if3 .taken, le-leb (sheetSize (v .t1)) (v .room) (omega (arith, size, c .before .before .before .before .before .before .before .before .before .before .before .before .before .before .before .before .if4 .left)))
-          (sym (ap (λ (y : Synthesis). Length (y .length)) (x .0)))) size,
-      c .before .before .before .before .before .before .before .before .write-a .ensures ∙ ap (λ (y : Synthesis). bytesOf (y .a)) (x .0),
-      c .before .before .write-b .ensures ∙ ap (λ (y : Synthesis). bytesOf (y .b)) (x .0),
+    let sound = c .before .before .before .before .before .before .before .before .before .before .before .before .before .before .before .before .before .before .before .before .is-sound .ensures in
+    let h : IsSound (v .t1) = sound-of _ (sym sound ∙ c .before .before .before .before .before .before .before .before .before .before .before .before .before .before .before .before .before .before .before .if3 .taken) in
+    let x = c .before .before .before .before .before .before .before .before .before .before .before .before .before .trace .ensures in
+    let size : v .t1 .count * c .before .before .before .before .before .before .before .before .before .before .before .before .before .before .before .before .before .before .count-rows .result ≡ sheetSize (v .t1) = ap (λ (k : ℕ). v .t1 .count * k) (c .before .before .before .before .before .before .before .before .before .before .before .before .before .before .before .before .before .before .count-rows .ensures .0) in (
+      work-done (v .t1) (v .a .now) (v .b .now) (v .room) _ _ _
+          (rw (eq-eqb _ _ (c .before .before .before .before .before .before .before .before .before .before .before .before .before .before .before .before .before .before .before .before .before .before .if1 .left), eq-eqb _ _ (c .before .before .before .before .before .before .before .before .before .before .before .before .before .before .before .before .before .before .before .before .before .if2 .left), ← sound, c .before .before .before .before .before .before .before .before .before .before .before .before .before .before .before .before .before .before .before .if3 .taken, le-leb (sheetSize (v .t1)) (v .room) (omega (arith, size, c .before .before .before .before .before .before .before .before .before .before .before .before .before .before .before .before .before .if4 .left)))
+          (sym (told _ (v .t1) (x .0) _ (c .sole-or-several .ensures)))) size,
+      c .before .before .before .before .before .before .before .before .before .write-a .ensures ∙ ap (λ (y : Synthesis). bytesOf (y .a)) (x .0),
+      c .before .before .before .write-b .ensures ∙ ap (λ (y : Synthesis). bytesOf (y .b)) (x .0),
       x .1 ∙ log-filled (v .t1) (v .log .now) h (z .pre),
     )
 
@@ -124,6 +129,7 @@ work-spec =
     trace-requires
     write-a-requires
     write-b-requires
+    sole-or-several-requires
     same-length
     same-length-2
     returns-4

@@ -1,6 +1,6 @@
 -- `synthesis::gather` meets its contract: the prime powers of what is left are split off one by one.
 -- Assumes nothing.
-use mathlib.Core.Path.{sym, ap, subst}
+use mathlib.Core.Path.{_≡_, sym, ap, subst}
 use Prim.Native.Nat.{ℕ, _<_, _*_}
 use native.Mathlib.Omega.{arith}
 use Rattle.residue.specs.Units.{Coprime}
@@ -8,17 +8,17 @@ use Rattle.residue.specs.Factors.{leastPower}
 use Rattle.residue.proofs.Factors.{least-value, value-most, rest-lt}
 use Rattle.steps.specs.declared.Ring.{Ring}
 use Rattle.steps.specs.Run.{Setting}
-use Rattle.synthesis.proofs.Gathering.{Gathered, is-ring, gathered-start, rest-most, product-most, value-apart, ring-fits, gathered-next, gathered-a, gathered-lengths}
+use Rattle.synthesis.proofs.Gathering.{Gathered, is-ring, gathered-start, rest-most, product-most, value-apart, ring-fits, gathered-next, Last, last-start, last-next, gathered-prime, gathered-other, gathered-a, gathered-lengths}
 use Rattle.synthesis.proofs.Logging.{Logging, logging-start, logging-fits, logging-next, logging-end}
 use Rattle.synthesis.proofs.gather.Statement.{statement}
 use Rattle.synthesis.proofs.gather.Tie as tie
 
 abbrev Inv-loop : tie.InvT-loop
-Inv-loop modulus terms count a₀ lengths₀ log₀ big₀ first₀ rest₀ a lengths log big first rest =
-    Gathered modulus terms count big rest a lengths × Logging modulus terms count first rest log₀ log
+Inv-loop modulus terms count a₀ lengths₀ log₀ big₀ first₀ last₀ rest₀ a lengths log big first last rest =
+    Gathered modulus terms count big rest a lengths × Logging modulus terms count first rest log₀ log × Last modulus big last
 
 abbrev μ-loop : tie.MeasureT-loop
-μ-loop modulus terms count a₀ lengths₀ log₀ big₀ first₀ rest₀ a lengths log big first rest = rest
+μ-loop modulus terms count a₀ lengths₀ log₀ big₀ first₀ last₀ rest₀ a lengths log big first last rest = rest
 
 loop-holds : tie.Need-loop-holds Inv-loop μ-loop
 loop-holds c =
@@ -26,6 +26,7 @@ loop-holds c =
     let a = z .args in (
       gathered-start (a .modulus) (a .terms .now) (a .count) (a .a .now) (a .lengths .now) (z .pre .0) (z .pre .2) (z .pre .4) (z .pre .5) (z .pre .6) (z .pre .7),
       logging-start (a .modulus) (a .terms .now) (a .count) (a .log .now),
+      last-start (a .modulus),
     )
 
 split-requires : tie.Need-split-requires Inv-loop μ-loop
@@ -98,16 +99,26 @@ loop-again c =
     let t = c .before .before .before .before .before .before .before .before .scale in
     let same = is-ring (leastPower (l .rest)) (f .prime) (f .exponent) (f .value) (t .result) (s .0) (s .1) (s .2) (t .ensures) in
     let x = c .before .before .before .before .extend .ensures in
-    (gathered-next (l .inv .0) big _ (f .rest) same (s .3) (z .pre .0) (x .0), logging-next (l .inv .1) big _ (f .rest) same (s .3) (x .1))
+    (gathered-next (l .inv .0) big _ (f .rest) same (s .3) (z .pre .0) (x .0), logging-next (l .inv .1) big _ (f .rest) same (s .3) (x .1), last-next (l .inv .0) big _ _ (s .0))
 
 same-length : tie.Need-same-length Inv-loop μ-loop
-same-length c = c .before .loop .inv .1 .noted .long
+same-length c = c .before .before .loop .inv .1 .noted .long
 
 returns : tie.Need-returns Inv-loop μ-loop
 returns c =
-    let z = c .before .before .before in
-    let l = c .before .loop in
-    (gathered-a (l .inv .0) (z .pre .0) (omega arith), gathered-lengths (l .inv .0) (z .pre .0) (omega arith), logging-end (l .inv .1) (omega arith))
+    let z = c .before .before .before .before in
+    let l = c .before .before .loop in
+    let whole : l .last ≡ z .args .modulus = omega arith in
+    (gathered-a (l .inv .0) (z .pre .0) (omega arith), gathered-lengths (l .inv .0) (z .pre .0) (omega arith), logging-end (l .inv .1) (omega arith), sym (gathered-prime (l .inv .0) (z .pre .0) (omega arith) (l .last) (l .inv .2) whole))
+
+same-length-2 : tie.Need-same-length-2 Inv-loop μ-loop
+same-length-2 c = c .before .before .loop .inv .1 .noted .long
+
+returns-2 : tie.Need-returns-2 Inv-loop μ-loop
+returns-2 c =
+    let z = c .before .before .before .before in
+    let l = c .before .before .loop in
+    (gathered-a (l .inv .0) (z .pre .0) (omega arith), gathered-lengths (l .inv .0) (z .pre .0) (omega arith), logging-end (l .inv .1) (omega arith), sym (gathered-other (l .inv .0) (z .pre .0) (omega arith) (l .last) (l .inv .2) (λ e. omega arith)))
 
 pub gather-spec : {M : Type 1} → statement M
 gather-spec =
@@ -125,4 +136,6 @@ gather-spec =
     loop-less
     loop-again
     same-length
-    returns)
+    returns
+    same-length-2
+    returns-2)

@@ -49,7 +49,7 @@ returns c =
     let z = c .before .before .before .before .before .before .before .before .before in
     let a = z .args in
     let g = c .before .before .before .before .gather .ensures in
-    (synthesis-is (a .modulus) (a .terms .now) (a .count) _ _ (z .pre .0) (z .pre .2) (g .0) (g .1) _ (c .start-cells .ensures), g .2)
+    (synthesis-is (a .modulus) (a .terms .now) (a .count) _ _ (z .pre .0) (z .pre .2) (g .0) (g .1) _ _ (c .start-cells .ensures) (g .3), g .2)
 
 pub trace-spec : {M : Type 1} → statement M
 trace-spec =

@@ -10,11 +10,20 @@ register-requires c κs = search needs
 enum-known-r : tie.Need-enum-known-r
 enum-known-r c = search needs
 
-enum-told : tie.Need-enum-told
-enum-told c = search needs
-
 cast-result : tie.Need-cast-result
 cast-result c = search needs
+
+value-of-requires : tie.Need-value-of-requires
+value-of-requires c κs = search needs
+
+mul-result : tie.Need-mul-result
+mul-result c = search needs
+
+add-result : tie.Need-add-result
+add-result c = search needs
+
+enum-told : tie.Need-enum-told
+enum-told c = search needs
 
 same-length : tie.Need-same-length
 same-length c = search needs
@@ -40,8 +49,11 @@ timing-register-spec =
     (tie.spec
     register-requires
     enum-known-r
-    enum-told
     cast-result
+    value-of-requires
+    mul-result
+    add-result
+    enum-told
     same-length
     same-length-2
     returns
