@@ -99,7 +99,7 @@ loop-again c =
     let t = c .before .before .before .before .before .before .before .before .scale in
     let same = is-ring (leastPower (l .rest)) (f .prime) (f .exponent) (f .value) (t .result) (s .0) (s .1) (s .2) (t .ensures) in
     let x = c .before .before .before .before .extend .ensures in
-    (gathered-next (l .inv .0) big _ (f .rest) same (s .3) (z .pre .0) (x .0), logging-next (l .inv .1) big _ (f .rest) same (s .3) (x .1), last-next (l .inv .0) big _ _ (s .0))
+    (gathered-next (l .inv .0) big _ (f .rest) same (s .3) (z .pre .0) (x .0), logging-next (l .inv .1) big _ (f .rest) same (s .3) (x .1), last-next (l .inv .0) big _ _ (omega (arith, s .0)))
 
 same-length : tie.Need-same-length Inv-loop μ-loop
 same-length c = c .before .before .loop .inv .1 .noted .long
