@@ -20,7 +20,7 @@
 
 extern "C" {
 bool timing_steps(uint32_t m, const uint32_t *s, size_t n, uint32_t *a, uint32_t *lens);
-uint32_t timing_register(uint32_t m, uint32_t count, const uint32_t *terms, uint8_t *a, size_t a_len, uint8_t *b, size_t b_len);
+uint64_t timing_register(uint32_t m, uint32_t count, const uint32_t *terms, uint8_t *a, size_t a_len, uint8_t *b, size_t b_len);
 uint64_t timing_trace(uint32_t m, uint32_t count, const uint32_t *terms, uint8_t *a, size_t a_len, uint8_t *b, size_t b_len);
 uint32_t timing_push_all(uint32_t m, const uint8_t *list, size_t len, uint32_t *held);
 uint32_t timing_pushes(uint32_t m, const uint8_t *list, size_t len, uint32_t *held);
@@ -86,7 +86,7 @@ static void prepare(uint32_t m, int n) {
     }
 }
 
-static uint32_t reg(uint32_t m, int n, int j) { return timing_register(m, (uint32_t)n, terms[j], a_cells, sizeof a_cells, b_cells, sizeof b_cells); }
+static uint64_t reg(uint32_t m, int n, int j) { return timing_register(m, (uint32_t)n, terms[j], a_cells, sizeof a_cells, b_cells, sizeof b_cells); }
 
 static uint64_t trace(uint32_t m, int n, int j) { return timing_trace(m, (uint32_t)n, terms[j], a_cells, sizeof a_cells, b_cells, sizeof b_cells); }
 
@@ -97,11 +97,18 @@ static bool holds(const uint8_t *cells, const uint32_t *x, int count) {
     return true;
 }
 
+// Whether a register of length l is the only one, as the register's reply has it: 0 not told, 1 sole, 2 several.
+static uint32_t told(uint32_t m, int n, uint32_t l) {
+    for (uint32_t d = 2; d * d <= m; d++)
+        if (m % d == 0) return 0;
+    return 2 * l <= (uint32_t)n ? 1 : 2;
+}
+
 static bool agree(uint32_t m, int n) {
     for (int j = 0; j < BATCH; j++) {
-        uint32_t l = reg(m, n, j);
+        uint64_t reply = reg(m, n, j);
         plain_register(m, terms[j], n, a, b, lens);
-        if (l != lens[n] || !holds(a_cells, a, 129) || !holds(b_cells, b, 128)) return false;
+        if ((uint32_t)reply != lens[n] || reply >> 32 != told(m, n, lens[n]) || !holds(a_cells, a, 129) || !holds(b_cells, b, 128)) return false;
         tricks_register(m, terms[j], n, a, b, lens2);
         if (memcmp(lens, lens2, sizeof lens) || !holds(a_cells, a, 129) || !holds(b_cells, b, 128)) return false;
     }

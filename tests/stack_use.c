@@ -13,7 +13,7 @@
 enum { TERMS = 128, STACK = 1 << 17, PAINT = 0xC3 };
 enum { NOTHING, VERIFY, GENERATE, SYNTHESIZE, MADE, FOUND, SHOWN, READ_LINE, REGISTER, TRACE, KINDS };
 
-uint32_t timing_register(uint32_t m, uint32_t count, const uint32_t *terms, uint8_t *a, size_t a_len, uint8_t *b, size_t b_len);
+uint64_t timing_register(uint32_t m, uint32_t count, const uint32_t *terms, uint8_t *a, size_t a_len, uint8_t *b, size_t b_len);
 uint64_t timing_trace(uint32_t m, uint32_t count, const uint32_t *terms, uint8_t *a, size_t a_len, uint8_t *b, size_t b_len);
 
 static const char *const names[KINDS] = {"no call",       "verify", "generate",  "synthesize", "look_up made",
@@ -47,7 +47,7 @@ static uint64_t enter(int kind) {
     case FOUND: return diverthrone_look_up(query, sizeof query, shelf, sizeof shelf, 0, record, sizeof record);
     case SHOWN: return diverthrone_look_up(query, sizeof query, shelf, sizeof shelf, DIVERTHRONE_EDITOR, record, sizeof record);
     case READ_LINE: return diverthrone_read_line(line, line_len, typed, sizeof typed);
-    case REGISTER: return timing_register(modulus, TERMS, terms, a_cells, sizeof a_cells, b_cells, sizeof b_cells) != l;
+    case REGISTER: return (uint32_t)timing_register(modulus, TERMS, terms, a_cells, sizeof a_cells, b_cells, sizeof b_cells) != l;
     case TRACE: return timing_trace(modulus, TERMS, terms, a_cells, sizeof a_cells, b_cells, sizeof b_cells) == 0;
     default: return 0;
     }
