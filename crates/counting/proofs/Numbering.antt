@@ -30,7 +30,7 @@ module _ (m : ℕ) where
   listAt-length (suc n) x = length-snoc (listAt m n (x / m)) (x % m) ∙ ap suc (listAt-length n (x / m))
 
   -- one more entry
-  pub listAt-more : (n y s : ℕ) → s < m → listAt m (suc n) (y * m + s) ≡ listAt m n y ++ (s ∷ [])
+  listAt-more : (n y s : ℕ) → s < m → listAt m (suc n) (y * m + s) ≡ listAt m n y ++ (s ∷ [])
   unfolding listAt
   listAt-more n y s h =
       ap (λ (z : ℕ). listAt m n z ++ ((y * m + s) % m ∷ [])) (mul-add-div-right (let z : zero < m = omega arith in z) y s ∙ omega (arith, div-eq-of-lt h))

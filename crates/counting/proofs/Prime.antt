@@ -29,7 +29,7 @@ module _ (p : ℕ) (P : Prime p) (S : List ℕ) where
   one-pos = omega arith
 
   -- the complexity is the length of row 0 at p^1
-  pub complexity-row : (k : ℕ) → complexity p S k ≡ len (rowAt p 1 S zero k)
+  complexity-row : (k : ℕ) → complexity p S k ≡ len (rowAt p 1 S zero k)
   unfolding largest
   complexity-row k =
       complexity-largest p (P .big) S k
@@ -37,7 +37,7 @@ module _ (p : ℕ) (P : Prime p) (S : List ℕ) where
       ∙ omega arith
 
   -- what the next term leaves with the register so far
-  abbrev pub leaves : ℕ → ℕ
+  abbrev leaves : ℕ → ℕ
   leaves k = conv (at S) (at (register p S k .a)) k % p
 
   row-leaves : (k : ℕ) → d-at p 1 S zero k ≡ leaves k
@@ -52,14 +52,14 @@ module _ (p : ℕ) (P : Prime p) (S : List ℕ) where
           (sy (register-a-at p (P .big) S k (subst (Among (itself p)) (sym (prime-powers p P)) here) i))
 
   -- a term that the register fits keeps the length
-  pub length-fits : (k : ℕ) → leaves k ≡ zero → complexity p S (suc k) ≡ complexity p S k
+  length-fits : (k : ℕ) → leaves k ≡ zero → complexity p S (suc k) ≡ complexity p S k
   length-fits k e =
       complexity-row (suc k)
       ∙ length-stays p 1 P one-pos S zero k one-pos (omega (arith, ap (valuation 1 p) (row-leaves k ∙ e) ∙ valuation-zero 1 p))
       ∙ sym (complexity-row k)
 
   -- after any other it is the larger of l and k + 1 - l
-  pub length-fails : (k : ℕ) → leaves k ≢ zero → complexity p S (suc k) ≡ max (complexity p S k) (suc k - complexity p S k)
+  length-fails : (k : ℕ) → leaves k ≢ zero → complexity p S (suc k) ≡ max (complexity p S k) (suc k - complexity p S k)
   length-fails k ne = go (decLe (L-at p 1 S zero k + L-at p 1 S (g-at p 1 S zero k) k) k)
     where
       u-zero : u-at p 1 S zero k < 1
@@ -77,14 +77,14 @@ module _ (p : ℕ) (P : Prime p) (S : List ℕ) where
   length-short k = complexity-short p (P .big) S k
 
   -- the length never shrinks, and grows to k + 1 - l or not at all
-  pub length-up : (k : ℕ) → complexity p S k ≤ complexity p S (suc k)
+  length-up : (k : ℕ) → complexity p S k ≤ complexity p S (suc k)
   length-up k = go (ℕ-discrete (leaves k) zero)
     where
       go : Dec (leaves k ≡ zero) → complexity p S k ≤ complexity p S (suc k)
       go (yes e) = omega (arith, length-fits k e)
       go (no e) = omega (arith, length-fails k e)
 
-  pub length-jump : (k : ℕ) → (complexity p S (suc k) ≡ complexity p S k) ⊎ (complexity p S (suc k) + complexity p S k ≡ suc k)
+  length-jump : (k : ℕ) → (complexity p S (suc k) ≡ complexity p S k) ⊎ (complexity p S (suc k) + complexity p S k ≡ suc k)
   length-jump k = go (ℕ-discrete (leaves k) zero) (decLe (complexity p S k + complexity p S k) k)
     where
       go : Dec (leaves k ≡ zero) → Dec (complexity p S k + complexity p S k ≤ k)
@@ -94,7 +94,7 @@ module _ (p : ℕ) (P : Prime p) (S : List ℕ) where
       go (no e) (no h) = inl (omega (arith, length-fails k e))
 
   -- while k is below 2l it stays
-  pub length-steady : (k : ℕ) → k < complexity p S k + complexity p S k → complexity p S (suc k) ≡ complexity p S k
+  length-steady : (k : ℕ) → k < complexity p S k + complexity p S k → complexity p S (suc k) ≡ complexity p S k
   length-steady k h = go (length-jump k)
     where
       go : (complexity p S (suc k) ≡ complexity p S k) ⊎ (complexity p S (suc k) + complexity p S k ≡ suc k) → complexity p S (suc k) ≡ complexity p S k

@@ -32,7 +32,7 @@ module _ {m : ℕ} (S a : ℕ → ℕ) (k l : ℕ) (zeros : (j : ℕ) → l ≤ 
       go (yes x) = of-eq (sym (at-tabulate l (conv S a) j x))
       go (no x) = tr (zeros j (omega arith) h) (of-eq (sym (at-past (tabulate l (conv S a)) j (omega (arith, length-tabulate l (conv S a))))))
 
-  pub start-deg : Vanish m (suc l) a → Deg m l a (at (start S a l))
+  start-deg : Vanish m (suc l) a → Deg m l a (at (start S a l))
   start-deg top = record { top-a = top; top-b = λ i h. of-eq (at-past (tabulate l (conv S a)) i (omega (arith, length-tabulate l (conv S a)))) }
 
 -- two series agree below place n, or there is a first place where they do not

@@ -34,14 +34,14 @@ use Rattle.counting.proofs.Sole.{start, start-agrees, Solution, sole}
 -- ---- to generate the terms is to have a product that is 0 from place l on
 
 -- coefficients l to n-1 of S × (1, c_1, .., c_l) are 0
-abbrev pub Zeros : ℕ → List ℕ → ℕ → List ℕ → Type 0
+abbrev Zeros : ℕ → List ℕ → ℕ → List ℕ → Type 0
 Zeros m S n c = (j : ℕ) → length c ≤ j → j < n → Cong m (conv (at S) (at (1 ∷ c)) j) zero
 
 module _ (m : ℕ) (S : List ℕ) (n : ℕ) (c : List ℕ) where
-  pub solves-zeros : Solves m S n c → Zeros m S n c
+  solves-zeros : Solves m S n c → Zeros m S n c
   solves-zeros x j h k = tr (x .generates j k) (of-eq (at-past (x .b) j (omega (arith, x .size))))
 
-  pub zeros-solves : Zeros m S n c → Solves m S n c
+  zeros-solves : Zeros m S n c → Solves m S n c
   zeros-solves h =
       record {
         b = start (at S) (at (1 ∷ c)) (length c);
@@ -49,13 +49,13 @@ module _ (m : ℕ) (S : List ℕ) (n : ℕ) (c : List ℕ) where
         generates = start-agrees (at S) (at (1 ∷ c)) n (length c) h;
       }
 
-  pub solving-zeros : solving m S n c ≡ true → Zeros m S n c
+  solving-zeros : solving m S n c ≡ true → Zeros m S n c
   unfolding solving
   solving-zeros h j l k =
       subst (λ (i : ℕ). Cong m (conv (at S) (at (1 ∷ c)) i) zero) (let e : length c + (j - length c) ≡ j = omega arith in e)
       (record { same = eqb-true (conv (at S) (at (1 ∷ c)) (length c + (j - length c)) % m) zero (all-at (n - length c) _ h (j - length c) (omega arith)) ∙ sym (zero-mod m) })
 
-  pub zeros-solving : Zeros m S n c → solving m S n c ≡ true
+  zeros-solving : Zeros m S n c → solving m S n c ≡ true
   unfolding solving
   zeros-solving h =
       all-true (n - length c) _ (λ i k. eq-eqb (conv (at S) (at (1 ∷ c)) (length c + i) % m) zero (h (length c + i) (omega arith) (omega arith) .same ∙ zero-mod m))
@@ -80,7 +80,7 @@ module _ (m : ℕ) (big : 1 < m) (S : List ℕ) (n : ℕ) where
   right : Right m S n (register m S n)
   right = register-right m big S n
 
-  pub own-at : (i : ℕ) → at (1 ∷ own m S n) i ≡ at (register m S n .a) i
+  own-at : (i : ℕ) → at (1 ∷ own m S n) i ≡ at (register m S n .a) i
   unfolding own
   own-at zero = sym (right .one)
   own-at (suc i) = go (decLt i (complexity m S n))
@@ -103,7 +103,7 @@ module _ (m : ℕ) (big : 1 < m) (S : List ℕ) (n : ℕ) where
       }
 
   -- the coefficients of the register
-  pub register-solution : Solution m (at S) n (complexity m S n) (at (register m S n .a))
+  register-solution : Solution m (at S) n (complexity m S n) (at (register m S n .a))
   register-solution =
       record {
         one = right .one;
@@ -119,7 +119,7 @@ module _ (m : ℕ) (big : 1 < m) (S : List ℕ) (n : ℕ) where
       (register-solution .zeros j (omega (arith, own-is .size)) k))
 
 -- a list of l numbers that generates the terms, as a series
-pub list-solution : (m : ℕ) → 1 < m → (S : List ℕ) (n l : ℕ) (c : List ℕ) → ListOf m l c → Zeros m S n c → Solution m (at S) n l (at (1 ∷ c))
+list-solution : (m : ℕ) → 1 < m → (S : List ℕ) (n l : ℕ) (c : List ℕ) → ListOf m l c → Zeros m S n c → Solution m (at S) n l (at (1 ∷ c))
 list-solution m big S n l c of z =
     record { one = refl; small = small; past = past; zeros = λ j h k. z j (omega (arith, of .size)) k }
   where

@@ -1,4 +1,5 @@
--- The listing as bytes: its first line, and the lines of queries, of registers that are reported and of typed lines.
+-- The listing as bytes: its first line, and the lines of queries, of registers that are reported and of typed lines; and whether a register is the only
+-- one, as a line of a working.
 -- Assumes nothing.
 use mathlib.Core.List.{List, [], _∷_, _++_}
 use Prim.Native.Nat.{ℕ, suc}
@@ -69,14 +70,16 @@ abbrev pub reportedLine : Sequence → Reported → List ℕ → List ℕ
 reportedLine s (P.Length l w) a = registerLine (s .modulus) (s .count) l (aCells a)
 reportedLine s (P.Refused r) a = refusalLine r
 
--- whether a register is the only one, in words, and as the line below the register's in a working
+-- whether a register is the only one, in words
 abbrev pub uniquenessText : Uniqueness → List ℕ
 uniquenessText U.Sole = bytes "sole"
 uniquenessText U.Several = bytes "several"
 uniquenessText U.NotTold = bytes "not told"
 
-abbrev pub uniquenessLine : Uniqueness → List ℕ
-uniquenessLine w = uniquenessText w ++ bytes "\n"
+-- the line below that of a register that is reported, in a working; none below a refusal
+abbrev pub uniquenessLine : Reported → List ℕ
+uniquenessLine (P.Length l w) = uniquenessText w ++ bytes "\n"
+uniquenessLine (P.Refused r) = []
 
 -- the line that answers a typed line: its refusal, or the line of the query that it becomes
 abbrev pub answerLine : Outcome → Found → List ℕ

@@ -1,4 +1,4 @@
-// The listing's lines as bytes in a lent buffer.
+// The listing's lines as bytes in a lent buffer, and the line of a working that says whether a register is the only one.
 use catalogue::A_PLACE;
 use catalogue::B_PLACE;
 use catalogue::LENGTH_CELL;
@@ -235,14 +235,19 @@ pub fn uniqueness_text(w: Uniqueness, out: &mut [u8]) -> usize
     }
 }
 
-// The line below the register's in a working.
-pub fn uniqueness_line(w: Uniqueness, out: &mut [u8]) -> usize
+// The line below that of a register that is reported, in a working; none below a refusal.
+pub fn uniqueness_line(r: Reported, out: &mut [u8]) -> usize
     requires { ⌜ length (now out) ≡ lineBytes ⌝ }
     ensures { λ n. ⌜ Counts n (now (out .exit)) ⌝ }
-    ensures { λ n. ⌜ Put (now (out .entry)) 0 (uniquenessLine w) (now (out .exit)) n ⌝ }
+    ensures { λ n. ⌜ Put (now (out .entry)) 0 (uniquenessLine r) (now (out .exit)) n ⌝ }
 {
-    let end = uniqueness_text(w, out);
-    put(b"\n", out, end)
+    match r {
+        Reported::Refused(_) => 0,
+        Reported::Length(_, w) => {
+            let end = uniqueness_text(w, out);
+            put(b"\n", out, end)
+        }
+    }
 }
 
 // The line that answers a typed line.

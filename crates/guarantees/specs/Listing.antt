@@ -15,7 +15,9 @@ use Rattle.recurrence.specs.Polynomial.{conv, degree}
 use Rattle.recurrence.specs.Least.{Least}
 use Rattle.sequence.specs.declared.Sequence.{Sequence}
 use Rattle.sequence.specs.declared.Outcome.the-variants.{Done}
+use Rattle.sequence.specs.declared.Uniqueness.the-variants.{Sole, Several, NotTold}
 use Rattle.sequence.specs.declared.Reported.{Reported}
+use Rattle.sequence.specs.declared.Reported.the-variants.{Length}
 use Rattle.sequence.specs.Limits.{maxModulus, aBytes, bBytes}
 use Rattle.sequence.specs.Rules.{openOf, checkOf, queryOf}
 use Rattle.sequence.specs.Report.{lengthTold, reportOf, aBuffer, written, filled}
@@ -23,7 +25,7 @@ use Rattle.lines.specs.Form.{isDigit, decimal}
 use Rattle.candidate.specs.Rules.{aCells}
 use Rattle.catalogue.specs.Rules.{recordBytes, recordOf, synthesizeOf, lookUpOf, servedIn}
 use Rattle.formatting.specs.Text.{numeral}
-use Rattle.formatting.specs.Listing.{header, registerLine, recordLine, queryLine, reportedLine, typedLine}
+use Rattle.formatting.specs.Listing.{header, registerLine, recordLine, queryLine, reportedLine, uniquenessLine, typedLine}
 use Rattle.guarantees.specs.Calls.{Call, afterAll, taken}
 use Rattle.guarantees.specs.Claims.{MadeCatalogue, termsOf}
 
@@ -112,6 +114,9 @@ pub record Printed : Type 0 where
   pub refused : lineFor 1 [] ≡ bytes "refused 1\n"
   pub refused-at : lineFor 9 (6 ∷ 3 ∷ 1 ∷ 5 ∷ 6 ∷ 6 ∷ 3 ∷ 9 ∷ 8 ∷ 10 ∷ 9 ∷ []) ≡ bytes "refused 3 at 7\n"
   pub cut-short : queryLine (take 100 (queryOf 9 (6 ∷ 3 ∷ []))) ≡ bytes "refused 5\n"
+  pub word-sole : uniquenessLine (Length 2 Sole) ≡ bytes "sole\n"
+  pub word-several : uniquenessLine (Length 3 Several) ≡ bytes "several\n"
+  pub word-untold : uniquenessLine (Length 3 NotTold) ≡ bytes "not told\n"
   pub typed : typedLine (bytes "mod 4: -2,5") ≡ bytes "4 2 0 2 1\n"
   pub typed-27 : typedLine (bytes "mod 9:x") ≡ bytes "refused 27 at 6\n"
   pub typed-28 : typedLine (bytes "mod 9:2147483648x") ≡ bytes "refused 28 at 15\n"

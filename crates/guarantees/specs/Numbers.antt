@@ -113,8 +113,12 @@ pub record Numbers : Type 0 where
       pushAllOf (forged 2 127 []) (bytesOf (1 ∷ 0 ∷ 0 ∷ []))
       ≡ record { sequence = forged 2 128 (replicate 127 0 ++ (1 ∷ [])); taken = 1; outcome = Refused Full }
   pub reported : registerTo (after 9 (6 ∷ 3 ∷ 1 ∷ 5 ∷ 6 ∷ [])) ≡ granted (3 ∷ 0 ∷ [])
+  pub reported-sole : registerTo (after 7 (1 ∷ 1 ∷ 2 ∷ 3 ∷ [])) ≡ granted (2 ∷ 1 ∷ [])
+  pub reported-several : registerTo (after 2 (0 ∷ 0 ∷ 1 ∷ [])) ≡ granted (3 ∷ 2 ∷ [])
   pub profiled : profileTo (after 9 (6 ∷ 3 ∷ 1 ∷ 5 ∷ 6 ∷ [])) ≡ granted []
   pub traced : traceTo (after 9 (6 ∷ 3 ∷ 1 ∷ 5 ∷ 6 ∷ [])) 10 ≡ granted (3 ∷ 0 ∷ [])
+  pub traced-sole : traceTo (after 7 (1 ∷ 1 ∷ 2 ∷ 3 ∷ [])) 4 ≡ granted (2 ∷ 1 ∷ [])
+  pub traced-several : traceTo (after 2 (0 ∷ 0 ∷ 1 ∷ [])) 3 ≡ granted (3 ∷ 2 ∷ [])
   pub traced-longer : traceTo (after 9 (6 ∷ 3 ∷ 1 ∷ 5 ∷ 6 ∷ [])) 11 ≡ granted (3 ∷ 0 ∷ [])
   pub traced-sheet :
       stored (after 6 (3 ∷ 3 ∷ [])) (replicate 5 blank)

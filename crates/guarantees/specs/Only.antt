@@ -25,7 +25,7 @@ use Rattle.sequence.specs.Trace.{traceOf}
 use Rattle.guarantees.specs.Calls.{Call, afterAll, taken}
 use Rattle.guarantees.specs.Cases.{reply}
 
--- What the word says for a prime m: l is the least length of the n terms ts, and c a list of l numbers below m that generates them.
+-- What the word says for a prime m, where l is the least length of the n terms ts, and the list c of l numbers below m generates them (`Says`).
 pub record ToldOf (m : ℕ) (ts : List ℕ) (l : ℕ) (c : List ℕ) (word : Uniqueness) : Type 0 where
   -- sole is said exactly when no second list of l numbers below m generates the terms, several exactly when one does
   pub sole-none : word ≡ Sole → NoSecond m ts (length ts) c
@@ -61,7 +61,7 @@ pub record Says (m : ℕ) (ts : List ℕ) (r : Reported) (a : List ℕ) : Type 0
   pub other-untold : (Prime m → ⊥) → word ≡ NotTold
   pub told : Prime m → ToldOf m ts l (listIn l a) word
 
--- For every modulus within the limits, after every list of calls, of the terms taken: a register, and a trace whose sheet has room.
+-- After a list of calls, of the terms taken: a register, and a trace whose sheet has room.
 pub record SaysAfter (m : ℕ) (calls : List Call) (a b : List ℕ) : Type 0 where
   pub register :
       let s = afterAll (openOf m .sequence) calls in
@@ -71,13 +71,14 @@ pub record SaysAfter (m : ℕ) (calls : List Call) (a b : List ℕ) : Type 0 whe
       → let s = afterAll (openOf m .sequence) calls in
       Says m (taken m calls) (traceOf s a b (length lent)) (written (traceOf s a b (length lent)) (aBuffer s) a)
 
+-- For every modulus within the limits, after every list of calls.
 unfoldable pub TheOnlyOne : Type 0
 TheOnlyOne =
     (m : ℕ) → 2 ≤ m → m ≤ maxModulus → (calls : List Call) (a b : List ℕ) → length a ≡ aBytes → length b ≡ bBytes → SaysAfter m calls a b
 
 -- ---- rows
 
--- one number generates 3, 0 modulo 9 exactly when it is 0, 3 or 6
+-- c is 0, 3 or 6
 abbrev pub OneOf036 : ℕ → Type 0
 OneOf036 c = (c ≡ 0) ⊎ ((c ≡ 3) ⊎ (c ≡ 6))
 
@@ -90,7 +91,7 @@ abbrev pub answered : ℕ → List ℕ → Reported
 answered m ts = reply m ts 0 .answer
 
 pub record OnlyRows : Type 0 where
-  -- 02's example: three lists, and not told
+  -- 02's example: three lists, those of 0, 3 and 6 and no other, and not told
   pub nine : reply 9 (3 ∷ 0 ∷ []) 1 ≡ record { answer = Length 1 NotTold; a = 1 ∷ 0 ∷ []; b = 3 ∷ [] }
   pub nine-three : listsFor 9 (3 ∷ 0 ∷ []) 1 ≡ 3
   pub nine-which : (c : ℕ) → c < 9 → Solves 9 (3 ∷ 0 ∷ []) 2 (c ∷ []) → OneOf036 c

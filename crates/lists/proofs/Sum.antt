@@ -41,7 +41,7 @@ unfolding sumTo
 sumTo-le zero c f h = omega arith
 sumTo-le (suc n) c f h = omega (arith, sumTo-le n c f (λ i k. h i (omega arith)), h n (omega arith))
 
-pub sumTo-add : (n : ℕ) (f g : ℕ → ℕ) → sumTo n (λ i. f i + g i) ≡ sumTo n f + sumTo n g
+sumTo-add : (n : ℕ) (f g : ℕ → ℕ) → sumTo n (λ i. f i + g i) ≡ sumTo n f + sumTo n g
 unfolding sumTo
 sumTo-add zero f g = refl
 sumTo-add (suc n) f g = omega (arith, sumTo-add n f g)

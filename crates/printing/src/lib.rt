@@ -1,4 +1,5 @@
-// What programs write to standard output, said once for all of them: texts and numbers, refusals, and the listing's lines.
+// What programs write to standard output, said once for all of them: texts and numbers, refusals, the listing's lines, and whether a
+// register is the only one.
 use formatting::LINE_BYTES;
 use libc::STDOUT_FILENO;
 use sequence::Refusal;
@@ -59,9 +60,10 @@ pub fn uniqueness(w: Uniqueness) {
     text(&out[..n]);
 }
 
-pub fn uniqueness_line(w: Uniqueness) {
+// The line below that of a register that is reported, in a working.
+pub fn uniqueness_line(r: Reported) {
     let mut out = [0u8; LINE_BYTES];
-    let n = formatting::uniqueness_line(w, &mut out);
+    let n = formatting::uniqueness_line(r, &mut out);
     text(&out[..n]);
 }
 

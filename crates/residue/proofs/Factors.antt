@@ -1,4 +1,4 @@
--- The least divisor, and every number as a product of prime powers with rising primes.
+-- The least divisor, the test for a prime, and every number as a product of prime powers with rising primes.
 -- Assumes nothing.
 use mathlib.Core.Path.{_≡_, refl, sym, ap, ap₂, _∙_, subst}
 use mathlib.Core.Logic.{_⊎_, inl, inr, _≢_}

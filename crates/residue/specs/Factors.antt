@@ -1,4 +1,4 @@
--- The prime powers of a number.
+-- The least divisor, the test for a prime, and the prime powers of a number.
 -- Assumes nothing.
 use mathlib.Core.Bool.{Bool, true, false}
 use mathlib.Core.List.{List, [], _∷_}

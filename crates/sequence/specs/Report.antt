@@ -38,7 +38,7 @@ bBuffer s = bytesOf (tabulate maxTerms (at (registerOf s .b)))
 abbrev pub profileBuffer : Sequence → List ℕ
 profileBuffer s = bytesOf (tabulate maxCells (lengthAt (s .modulus) (s .terms) (s .count)))
 
--- Whether a register of length l, the least for n terms, is the only one. It is told modulo a prime, and there it is one where 2l ≤ n.
+-- Whether a register of length l, the least for n terms, is the only one. It is told modulo a prime, and there it is the only one where 2l ≤ n.
 unfoldable pub uniquenessBy : Bool → ℕ → ℕ → Uniqueness
 uniquenessBy prime n l = pick prime (pick (leb (2 * l) n) U.Sole U.Several) U.NotTold
 

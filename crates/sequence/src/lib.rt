@@ -363,7 +363,7 @@ pub fn write_register(x: Synthesis, out: &mut [u8])
 
 // Whether a register of length l, the least for n terms, is the only one. Modulo a prime it is where 2l ≤ n (the crate counting).
 // Rejected: sole for 2l = n + 1; several for 2l = n.
-fn sole_or_several(prime: bool, n: u32, l: u32) -> Uniqueness
+fn uniqueness_of(prime: bool, n: u32, l: u32) -> Uniqueness
     requires { ⌜ l ≤ maxTerms ⌝ }
     ensures { λ r. ⌜ r ≡ uniquenessBy prime n l ⌝ }
 {
@@ -396,7 +396,7 @@ pub fn register(s: Sequence, a: &mut [u8], b: &mut [u8]) -> Reported
         let xb = x.b;
         write_a(&xa, a);
         write_b(&xb, b);
-        let w = sole_or_several(x.prime, s.count, x.length);
+        let w = uniqueness_of(x.prime, s.count, x.length);
         return Reported::Length(x.length, w);
     }
     Reported::Refused(Refusal::Sequence)
@@ -435,7 +435,7 @@ pub fn work(s: Sequence, a: &mut [u8], b: &mut [u8], room: usize, log: &mut [u64
         let x = synthesis::trace(s.modulus, &s.terms, n, log);
         write_a(&x.a, a);
         write_b(&x.b, b);
-        let w = sole_or_several(x.prime, s.count, x.length);
+        let w = uniqueness_of(x.prime, s.count, x.length);
         return Worked {
             reply: Reported::Length(x.length, w),
             count: count,

@@ -52,12 +52,10 @@ fn show(s: Sequence) {
     let w = sequence::work(s, &mut a, &mut b, LOG, &mut log);
     let reply = w.reply;
     printing::reported_line(s, reply, &a);
+    printing::uniqueness_line(reply);
     match reply {
         Reported::Refused(_) => {}
-        Reported::Length(_, only) => {
-            printing::uniqueness_line(only);
-            table(&log, w.count);
-        }
+        Reported::Length(_, _) => table(&log, w.count),
     }
 }
 

@@ -33,8 +33,8 @@ write-a-requires c κs = (long-a _ _ (c .before .before .before .before .solve .
 write-b-requires : tie.Need-write-b-requires
 write-b-requires c κs = (long-b _ _ (c .before .before .before .before .before .before .before .before .before .solve .ensures), search needs)
 
-sole-or-several-requires : tie.Need-sole-or-several-requires
-sole-or-several-requires c κs =
+uniqueness-of-requires : tie.Need-uniqueness-of-requires
+uniqueness-of-requires c κs =
     let v = c .before .before .before .before .before .before .before .before .before .before .before .before in
     short-length _ _ (v .solve .ensures) (sound-of _ (sym (v .before .before .is-sound .ensures) ∙ v .before .if3 .taken))
 
@@ -51,7 +51,7 @@ returns-3 c =
     let g = v .before in
     let t = g .before .before .before .before .before .before .args in
     report-told (t .s) (t .a .now) (t .b .now)
-    (rw (eq-eqb _ _ (g .before .before .before .if1 .left), eq-eqb _ _ (g .before .before .if2 .left), ← g .before .is-sound .ensures, g .if3 .taken) (told _ _ (v .solve .ensures) _ (c .sole-or-several .ensures)))
+    (rw (eq-eqb _ _ (g .before .before .before .if1 .left), eq-eqb _ _ (g .before .before .if2 .left), ← g .before .is-sound .ensures, g .if3 .taken) (told _ _ (v .solve .ensures) _ (c .uniqueness-of .ensures)))
     (c .before .before .before .before .before .before .before .before .write-a .ensures ∙ ap (λ (z : Synthesis). bytesOf (z .a)) (v .solve .ensures))
     (c .before .before .before .write-b .ensures ∙ ap (λ (z : Synthesis). bytesOf (z .b)) (v .solve .ensures))
 
@@ -71,7 +71,7 @@ register-spec =
     solve-requires
     write-a-requires
     write-b-requires
-    sole-or-several-requires
+    uniqueness-of-requires
     same-length
     same-length-2
     returns-3

@@ -73,8 +73,8 @@ write-a-requires c κs = (long-a _ (c .before .before .before .before .before .b
 write-b-requires : tie.Need-write-b-requires
 write-b-requires c κs = (long-b _ (c .before .before .before .before .before .before .before .before .before .before .before .before .before .before .before .before .before .before .before .before .before .args .t1) (c .before .before .before .before .before .before .before .before .before .trace .ensures .0), search needs)
 
-sole-or-several-requires : tie.Need-sole-or-several-requires
-sole-or-several-requires c κs =
+uniqueness-of-requires : tie.Need-uniqueness-of-requires
+uniqueness-of-requires c κs =
     let v = c .before .before .before .before .before .before .before .before .before .before .before .before in
     let g = v .before .before .before .before .before .before in
     short-length _ (g .before .before .before .before .before .before .args .t1) (v .trace .ensures .0) (sound-of _ (sym (g .before .is-sound .ensures) ∙ g .if3 .taken))
@@ -96,7 +96,7 @@ returns-4 c =
     let size : v .t1 .count * c .before .before .before .before .before .before .before .before .before .before .before .before .before .before .before .before .before .before .count-rows .result ≡ sheetSize (v .t1) = ap (λ (k : ℕ). v .t1 .count * k) (c .before .before .before .before .before .before .before .before .before .before .before .before .before .before .before .before .before .before .count-rows .ensures .0) in (
       work-done (v .t1) (v .a .now) (v .b .now) (v .room) _ _ _
           (rw (eq-eqb _ _ (c .before .before .before .before .before .before .before .before .before .before .before .before .before .before .before .before .before .before .before .before .before .before .if1 .left), eq-eqb _ _ (c .before .before .before .before .before .before .before .before .before .before .before .before .before .before .before .before .before .before .before .before .before .if2 .left), ← sound, c .before .before .before .before .before .before .before .before .before .before .before .before .before .before .before .before .before .before .before .if3 .taken, le-leb (sheetSize (v .t1)) (v .room) (omega (arith, size, c .before .before .before .before .before .before .before .before .before .before .before .before .before .before .before .before .before .if4 .left)))
-          (sym (told _ (v .t1) (x .0) _ (c .sole-or-several .ensures)))) size,
+          (sym (told _ (v .t1) (x .0) _ (c .uniqueness-of .ensures)))) size,
       c .before .before .before .before .before .before .before .before .before .write-a .ensures ∙ ap (λ (y : Synthesis). bytesOf (y .a)) (x .0),
       c .before .before .before .write-b .ensures ∙ ap (λ (y : Synthesis). bytesOf (y .b)) (x .0),
       x .1 ∙ log-filled (v .t1) (v .log .now) h (z .pre),
@@ -129,7 +129,7 @@ work-spec =
     trace-requires
     write-a-requires
     write-b-requires
-    sole-or-several-requires
+    uniqueness-of-requires
     same-length
     same-length-2
     returns-4

@@ -20,17 +20,17 @@ slice-aggregate-reported-line c = search needs
 reported-line-requires : tie.Need-reported-line-requires
 reported-line-requires c κs = search needs
 
-enum-told : tie.Need-enum-told
-enum-told c = search needs
-
-enum-known-reply : tie.Need-enum-known-reply
-enum-known-reply c = search needs
-
 uniqueness-line-requires : tie.Need-uniqueness-line-requires
 uniqueness-line-requires c κs = search needs
 
+enum-told : tie.Need-enum-told
+enum-told c = search needs
+
+enum-told-2 : tie.Need-enum-told-2
+enum-told-2 c = search needs
+
 table-requires : tie.Need-table-requires
-table-requires c κs = count-fits _ _ _ _ _ (c .before .before .before .before .before .before .before .before .before .work .ensures .0) .1
+table-requires c κs = count-fits _ _ _ _ _ (c .before .before .before .before .before .before .before .before .work .ensures .0) .1
 
 returns : tie.Need-returns
 returns c = search needs
@@ -47,9 +47,9 @@ show-spec =
     work-requires
     slice-aggregate-reported-line
     reported-line-requires
-    enum-told
-    enum-known-reply
     uniqueness-line-requires
+    enum-told
+    enum-told-2
     table-requires
     returns
     returns-2)

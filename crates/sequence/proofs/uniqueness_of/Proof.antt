@@ -1,4 +1,4 @@
--- `sequence::sole_or_several` meets its contract.
+-- `sequence::uniqueness_of` meets its contract.
 -- Assumes nothing.
 use mathlib.Core.Path.{refl}
 use Prim.Native.Nat.{_*_, _≤_, _<_}
@@ -6,8 +6,8 @@ use native.Mathlib.Omega.{arith}
 use borrow.Author.Needs.{needs}
 use borrow.Author.Tests.{le-leb, lt-leb}
 use Rattle.sequence.specs.Report.{uniquenessBy}
-use Rattle.sequence.proofs.sole_or_several.Statement.{statement}
-use Rattle.sequence.proofs.sole_or_several.Tie as tie
+use Rattle.sequence.proofs.uniqueness_of.Statement.{statement}
+use Rattle.sequence.proofs.uniqueness_of.Tie as tie
 
 mul-if2 : tie.Need-mul-if2
 mul-if2 c = search needs
@@ -30,5 +30,5 @@ returns-3 : tie.Need-returns-3
 unfolding uniquenessBy
 returns-3 c = rw (c .if1 .left) refl
 
-pub sole-or-several-spec : {M : Type 1} → statement M
-sole-or-several-spec = tie.close (tie.spec mul-if2 returns returns-2 returns-3)
+pub uniqueness-of-spec : {M : Type 1} → statement M
+uniqueness-of-spec = tie.close (tie.spec mul-if2 returns returns-2 returns-3)
