@@ -19,8 +19,8 @@ unfoldable pub synthesisOf : ℕ → List ℕ → ℕ → Synthesis
 synthesisOf m S n =
     record {
       length = register m S n .length;
-      prime = isPrime m;
       a = tabulate maxCells (at (register m S n .a));
       b = tabulate maxTerms (at (register m S n .b));
       lengths = tabulate maxCells (lengthAt m S n);
+      prime = isPrime m;
     }

@@ -19,10 +19,10 @@ ghost use Rattle.synthesis.specs.Synthesis.{lengthAt, synthesisOf};
 // The shortest register of the first terms, and the linear complexity of the first 0, 1, .. of them; and whether the modulus is prime.
 pub struct Synthesis {
     pub length: u32,
-    pub prime: bool,
     pub a: [u32; CELLS],
     pub b: [u32; TERMS],
     pub lengths: [u32; CELLS],
+    pub prime: bool,
 }
 
 // Makes each cell of a, known modulo big, known modulo big q by the row's cell modulo q. Where both are the same number, it is that one.
@@ -178,10 +178,10 @@ pub fn trace(modulus: u32, terms: &[u32; TERMS], count: usize, log: &mut [u64]) 
     let b = start_cells(&a, terms, length as usize, modulus);
     Synthesis {
         length: length,
-        prime: prime,
         a: a,
         b: b,
         lengths: lengths,
+        prime: prime,
     }
 }
 
