@@ -415,8 +415,8 @@ power k row length u theta g case
 ";
 
 /// 1,1 modulo 2, term by term, then 3,0 modulo 9, with reports and tracings between the terms;
-/// refused ones say nothing of it.
-fn replayed(group: &mut Group) {
+/// refused ones say nothing of it. Each call with its line.
+fn told_script() -> Vec<(Call, String)> {
     use Operation::*;
     let right = [A_BYTES, B_BYTES];
     let cells = |a: &[u64], b: &[u64]| {
@@ -434,7 +434,7 @@ fn replayed(group: &mut Group) {
     let of_one = sheet(&[first]);
     let of_both = sheet(&[first, [2, 1, 0, 1, 0, 1, 0, 3]]);
     let of_three = sheet(&[[9, 0, 0, 0, 1, 1, 0, 2], [9, 0, 1, 0, 2, 1, 2, 1]]);
-    let script = [
+    vec![
         (call(Open, 2, [0, 0]), format!("open ok {}", held(2, &[]))),
         (call(Register, 0, right), format!("register length 0 sole {none}")),
         (call(Trace, 0, right), format!("trace length 0 sole {none} 811c9dc5")),
@@ -454,7 +454,11 @@ fn replayed(group: &mut Group) {
         (call(Open, 1, [0, 0]), format!("open refused 1 {}", held(0, &[]))),
         (call(Register, 0, right), format!("register refused 21 {lent}")),
         (call(Trace, 9, right), format!("trace refused 21 {lent} 811c9dc5")),
-    ];
+    ]
+}
+
+fn replayed(group: &mut Group) {
+    let script = told_script();
     let bytes: Vec<u8> = script.iter().flat_map(|(call, _)| call.bytes()).collect();
     let (text, whole) = replay(&bytes);
     group.check(whole && text.lines().count() == script.len(), || text.clone());

@@ -6,22 +6,11 @@ use Prim.Native.Nat.{ℕ, zero, suc, _+_, _*_, _/_, _%_, _^_, _<_}
 use native.Mathlib.Nat.{mod-lt, mod-eq-of-lt, div-eq-of-lt, mul-add-div-right, mul-add-mod-self-right, div-add-mod', div-lt-iff-lt-mul, pow-suc, pow-zero, mul-le-mul-right}
 use native.Mathlib.Decide.{ℕ-discrete, decLt}
 use native.Mathlib.Omega.{arith}
-use lib.ListN.{length, length-append, List·getD-append}
-use lib.Seq.{ext-getD, getD-at}
+use lib.ListN.{length}
+use lib.Seq.{ext-getD}
 use Rattle.lists.specs.Table.{at}
-use Rattle.lists.proofs.Table.{at-past}
+use Rattle.lists.proofs.Table.{at-past, length-snoc, at-front, at-last}
 use Rattle.counting.specs.Numbering.{listAt, ListOf, NumberOf}
-
--- ---- a list with one more entry
-
-pub length-snoc : (ts : List ℕ) (t : ℕ) → length (ts ++ (t ∷ [])) ≡ suc (length ts)
-length-snoc ts t = length-append ts (t ∷ []) ∙ omega arith
-
-pub at-front : (ts : List ℕ) (t i : ℕ) → i < length ts → at (ts ++ (t ∷ [])) i ≡ at ts i
-at-front ts t i h = List·getD-append ts (t ∷ []) zero i h
-
-pub at-last : (ts : List ℕ) (t n : ℕ) → length ts ≡ n → at (ts ++ (t ∷ [])) n ≡ t
-at-last ts t n e = getD-at ts t [] zero n e
 
 module _ (m : ℕ) where
   pub listAt-length : (n x : ℕ) → length (listAt m n x) ≡ n

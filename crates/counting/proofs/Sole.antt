@@ -13,11 +13,11 @@ use Rattle.residue.specs.Congruence.{Cong, neg}
 use Rattle.residue.specs.Units.{Prime}
 use Rattle.residue.proofs.Congruence.{rfl, of-eq, sy, tr, add, same-below, zero-r, add-neg, Invertible}
 use Rattle.residue.proofs.Units.{prime-invertible}
+use Rattle.residue.proofs.Factors.{power-one}
 use Rattle.recurrence.specs.Polynomial.{conv}
 use Rattle.recurrence.specs.Register.{complexity}
 use Rattle.recurrence.proofs.Series.{shift, conv-add-r, conv-mul-r, conv-comm, conv-shift-r, shift-below, shift-from}
 use Rattle.recurrence.proofs.Pairs.{Vanish, Deg, Agree, conv-cong, conv-zero}
-use Rattle.residue.proofs.Factors.{power-one}
 use Rattle.counting.proofs.Prime.{length-short, length-later, length-least}
 
 -- the coefficients of S × a that b has, where those from place l on are 0

@@ -13,7 +13,7 @@ use lib.ListN.{length, List·getD-append}
 use lib.Seq.{ext-getD, getD-append-add}
 use borrow.Author.Tests.{eq-eqb, eqb-true}
 use Rattle.lists.specs.Table.{at, tabulate}
-use Rattle.lists.proofs.Table.{length-tabulate, at-tabulate, at-past}
+use Rattle.lists.proofs.Table.{length-tabulate, at-tabulate, at-past, length-snoc, at-front, at-last}
 use Rattle.lists.proofs.Search.{all-true, all-at}
 use Rattle.residue.specs.Congruence.{Cong, neg}
 use Rattle.residue.specs.Units.{Prime}
@@ -27,7 +27,7 @@ use Rattle.counting.specs.Numbering.{listAt, ListOf}
 use Rattle.counting.specs.Solutions.{Solves, solving, solutions, CountsLists, NoSecond, Second}
 use Rattle.counting.proofs.Prime.{length-short, length-extended}
 use Rattle.counting.proofs.Counts.{count-by}
-use Rattle.counting.proofs.Numbering.{length-snoc, at-front, at-last, listAt-length, listAt-below, listAt-of, number, number-eq, number-below, listAt-number, number-listAt, listAt-inj, numbered}
+use Rattle.counting.proofs.Numbering.{listAt-length, listAt-below, listAt-of, number, number-eq, number-below, listAt-number, number-listAt, listAt-inj, numbered}
 use Rattle.counting.proofs.Terms.{conv-more, last-alike}
 use Rattle.counting.proofs.Sole.{start, start-agrees, Solution, sole}
 

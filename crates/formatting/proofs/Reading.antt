@@ -8,10 +8,11 @@ use native.Mathlib.Nat.{pow-suc, mod-lt}
 use native.Mathlib.Decide.{decLt}
 use native.Mathlib.Omega.{arith}
 use lib.Dec.{ltb}
-use lib.ListN.{length, length-append, List·getD-append}
+use lib.ListN.{length}
 use borrow.Author.Tests.{lt-ltb, le-leb, ltb-true, ltb-false}
 use Rattle.io.specs.Digits.{glyph, digits}
 use Rattle.lists.specs.Table.{at}
+use Rattle.lists.proofs.Table.{length-snoc, at-front}
 use Rattle.lists.specs.Search.{first, every}
 use Rattle.lists.proofs.Search.{every-cons, every-head, every-tail, both-true, first-le, first-passes, first-before}
 use Rattle.residue.proofs.Factors.{below-power}
@@ -25,7 +26,7 @@ unfolding decimal
 decimal-last [] b = omega arith
 decimal-last (c ∷ bs) b =
     let p : 10 ^ suc (length bs) ≡ 10 ^ length bs * 10 = pow-suc 10 (length bs) in
-    let n : length (bs ++ (b ∷ [])) ≡ suc (length bs) = length-append bs (b ∷ []) ∙ omega arith in
+    let n : length (bs ++ (b ∷ [])) ≡ suc (length bs) = length-snoc bs b in
     let q : (c - 48) * 10 ^ length (bs ++ (b ∷ [])) ≡ (c - 48) * (10 ^ length bs * 10) = ap (λ (x : ℕ). (c - 48) * x) (ap (λ (x : ℕ). 10 ^ x) n ∙ p) in
     let e : (c - 48) * 10 ^ length (bs ++ (b ∷ [])) + decimal (bs ++ (b ∷ [])) ≡ ((c - 48) * 10 ^ length bs + decimal bs) * 10 + (b - 48)
     = omega (arith, decimal-last bs b) in
@@ -63,7 +64,7 @@ value-is (suc k) n h =
 
 long : (k n : ℕ) → length (digits 10 k n) ≡ k
 long zero n = refl
-long (suc k) n = length-append (digits 10 k (n / 10)) (glyph (n % 10) ∷ []) ∙ omega (arith, long k (n / 10))
+long (suc k) n = length-snoc (digits 10 k (n / 10)) (glyph (n % 10)) ∙ omega (arith, long k (n / 10))
 
 -- the first of them
 lead : (j n : ℕ) → 10 ^ j ≤ n → n < 10 ^ suc j → at (digits 10 (suc j) n) 0 ≡ 48 → ⊥
@@ -72,7 +73,7 @@ lead (suc j) n h k e =
     let p : 10 ^ suc j ≡ 10 ^ j * 10 = pow-suc 10 j in
     let q : 10 ^ suc (suc j) ≡ 10 ^ suc j * 10 = pow-suc 10 (suc j) in
     lead j (n / 10) (omega arith) (omega arith)
-    (sym (List·getD-append (digits 10 (suc j) (n / 10)) (glyph (n % 10) ∷ []) 0 0 (omega (arith, long (suc j) (n / 10)))) ∙ e)
+    (sym (at-front (digits 10 (suc j) (n / 10)) (glyph (n % 10)) 0 (omega (arith, long (suc j) (n / 10)))) ∙ e)
 
 -- ---- numerals
 

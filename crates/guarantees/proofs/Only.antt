@@ -26,7 +26,7 @@ use Rattle.sequence.specs.declared.Uniqueness.the-variants.{Sole, Several, NotT
 use Rattle.sequence.specs.declared.Reported.{Reported}
 use Rattle.sequence.specs.Limits.{maxModulus, maxTerms, maxCells, profileBytes}
 use Rattle.sequence.specs.Report.{uniquenessOf, lengthTold}
-use Rattle.sequence.proofs.Words.{said-sole, said-several, said-nothing, words-differ}
+use Rattle.sequence.proofs.OnlyOne.{said-sole, said-several, said-nothing, said-apart}
 use Rattle.guarantees.specs.Calls.{taken}
 use Rattle.guarantees.specs.Claims.{Demand3, TheWorking}
 use Rattle.guarantees.specs.Only.{ToldOf, listIn, Says, TheOnlyOne}
@@ -58,13 +58,13 @@ module _ (m : ℕ) (big : 2 ≤ m) (ts : List ℕ) where
       where
         go : Dec (2 * l ≤ n) → 2 * l ≤ n
         go (yes h) = h
-        go (no h) = words-differ Sole Several (omega arith) (sym e ∙ is-several (omega arith))
+        go (no h) = said-apart Sole Several (omega arith) (sym e ∙ is-several (omega arith))
 
     long : word ≡ Several → n < 2 * l
     long e = go (decLe (2 * l) n)
       where
         go : Dec (2 * l ≤ n) → n < 2 * l
-        go (yes h) = words-differ Sole Several (omega arith) (sym (is-sole h) ∙ e)
+        go (yes h) = said-apart Sole Several (omega arith) (sym (is-sole h) ∙ e)
         go (no h) = omega arith
 
     told : ToldOf m ts l (own m ts n) word
@@ -96,8 +96,8 @@ module _ (m : ℕ) (big : 2 ≤ m) (ts : List ℕ) where
   untold e P = go (decLe (2 * l) n)
     where
       go : Dec (2 * l ≤ n) → ⊥
-      go (yes h) = words-differ NotTold Sole (omega arith) (sym e ∙ is-sole P h)
-      go (no h) = words-differ NotTold Several (omega arith) (sym e ∙ is-several P (omega arith))
+      go (yes h) = said-apart NotTold Sole (omega arith) (sym e ∙ is-sole P h)
+      go (no h) = said-apart NotTold Several (omega arith) (sym e ∙ is-several P (omega arith))
 
   other : (Prime m → ⊥) → word ≡ NotTold
   other no-prime = said-nothing (isPrime m) n l (go (isPrime m) (test-prime m))

@@ -6,8 +6,8 @@ use Prim.Native.Nat.{ℕ, zero, suc, _+_, _≤_, _<_}
 use native.Mathlib.Nat.{not-suc-le-zero, lt-irrefl, le-trans}
 use native.Mathlib.Decide.{ℕ-discrete, decLt}
 use native.Mathlib.Omega.{arith}
-use lib.ListN.{length, getD, set, length-set, List·getD-eq-default}
-use lib.Seq.{ext-getD, getD-set-same, getD-set-other}
+use lib.ListN.{length, getD, set, length-set, length-append, List·getD-append, List·getD-eq-default}
+use lib.Seq.{ext-getD, getD-at, getD-set-same, getD-set-other}
 use borrow.Author.Count.{below-more}
 use Rattle.lists.specs.Table.{at, tabulate}
 
@@ -25,6 +25,16 @@ getD-tabulate (suc n) f (suc i) d h = getD-tabulate n (λ i. f (suc i)) i d (ome
 -- past its end a list of numbers reads 0
 pub at-past : (xs : List ℕ) (i : ℕ) → length xs ≤ i → at xs i ≡ zero
 at-past xs i h = List·getD-eq-default xs zero h
+
+-- one more entry at the end
+pub length-snoc : (xs : List ℕ) (x : ℕ) → length (xs ++ (x ∷ [])) ≡ suc (length xs)
+length-snoc xs x = length-append xs (x ∷ []) ∙ omega arith
+
+pub at-front : (xs : List ℕ) (x i : ℕ) → i < length xs → at (xs ++ (x ∷ [])) i ≡ at xs i
+at-front xs x i h = List·getD-append xs (x ∷ []) zero i h
+
+pub at-last : (xs : List ℕ) (x n : ℕ) → length xs ≡ n → at (xs ++ (x ∷ [])) n ≡ x
+at-last xs x n e = getD-at xs x [] zero n e
 
 pub at-tabulate : (n : ℕ) (f : ℕ → ℕ) (i : ℕ) → i < n → at (tabulate n f) i ≡ f i
 at-tabulate n f i h = getD-tabulate n f i zero h

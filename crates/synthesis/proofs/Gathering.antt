@@ -300,9 +300,9 @@ module _ (m : ℕ) (S : List ℕ) (n : ℕ) (a lengths : List ℕ) (wide : 1 < m
       go i h (no l) = s .above i (omega arith) ∙ sym (R .past-b i (omega (arith, length-is)))
 
   pub synthesis-is : (b : List ℕ) (prime : Bool) → Starts S a (at lengths n) m b → prime ≡ isPrime m
-      → _≡_ {A = Synthesis} (record { length = at lengths n; prime = prime; a = a; b = b; lengths = lengths }) (synthesisOf m S n)
+      → _≡_ {A = Synthesis} (record { length = at lengths n; a = a; b = b; lengths = lengths; prime = prime }) (synthesisOf m S n)
   unfolding synthesisOf
   synthesis-is b prime s hp =
-      ap₂ (λ (l : ℕ) (x : List ℕ). record { length = l; prime = prime; a = x; b = b; lengths = lengths }) length-is ha
-      ∙ ap₂ (λ (x y : List ℕ). record { length = register m S n .length; prime = prime; a = tabulate maxCells (at (register m S n .a)); b = x; lengths = y }) (b-is b s) hl
-      ∙ ap (λ (t : Bool). record { length = register m S n .length; prime = t; a = tabulate maxCells (at (register m S n .a)); b = tabulate maxTerms (at (register m S n .b)); lengths = tabulate maxCells (lengthAt m S n) }) hp
+      ap₂ (λ (l : ℕ) (x : List ℕ). record { length = l; a = x; b = b; lengths = lengths; prime = prime }) length-is ha
+      ∙ ap₂ (λ (x y : List ℕ). record { length = register m S n .length; a = tabulate maxCells (at (register m S n .a)); b = x; lengths = y; prime = prime }) (b-is b s) hl
+      ∙ ap (λ (t : Bool). record { length = register m S n .length; a = tabulate maxCells (at (register m S n .a)); b = tabulate maxTerms (at (register m S n .b)); lengths = tabulate maxCells (lengthAt m S n); prime = t }) hp

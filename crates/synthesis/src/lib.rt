@@ -92,8 +92,8 @@ fn extend(
 }
 
 // a and the lengths, and the records of the steps, from the prime powers of the modulus, the least prime first. Replies whether the modulus is
-// prime: the primes are at hand here, and looking its least divisor up once more would cost as much as many terms.
-// Rejected: a prime power taken for a prime; every modulus.
+// prime: the primes are at hand here, and to look its least divisor up once more would make the table of divisors a second time.
+// Rejected: a prime power taken for a prime; every modulus; 2 not taken for one.
 fn gather(
     modulus: u32,
     terms: &[u32; TERMS],
@@ -128,10 +128,10 @@ fn gather(
         last = f.prime;
         rest = f.rest;
     }
-    if last == modulus {
-        return true;
+    if last != modulus {
+        return false;
     }
-    false
+    true
 }
 
 // b from a: the register generates its terms, so that b_j is coefficient j of terms times a, and it has only l cells. So b is found

@@ -47,7 +47,7 @@ rowLengths m S n = tabulate maxCells (λ k. pick (leb k n) (len (rowOf m S k)) z
 abbrev pub given : ℕ → ℕ → List ℕ → Sequence
 given m n S = record { modulus = m; count = n; terms = S }
 
--- the length that is replied, and 2^32 times whether the register is the only one; a refusal is 129, which no length is
+-- the length that is replied, and 2^32 times `uniqueness`; a refusal is 129, which no length is
 abbrev pub repliedBy : Reported → ℕ
 repliedBy (P.Length l w) = l + 4294967296 * uniqueness w
 repliedBy (P.Refused r) = maxCells

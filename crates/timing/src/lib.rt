@@ -80,7 +80,7 @@ pub extern "C" fn timing_steps(
     false
 }
 
-// Whether a register is the only one, as a value.
+// Whether a register is the only one, by its value in the reply by number.
 fn value_of(w: Uniqueness) -> u64
     ensures { λ r. ⌜ (r ≡ uniqueness w) × (r ≤ 2) ⌝ }
 {
@@ -91,7 +91,7 @@ fn value_of(w: Uniqueness) -> u64
     }
 }
 
-// The register of a sequence, by the public call. The reply is its length and 2^32 times that value, or 129 where the call refuses.
+// The register of a sequence, by the public call. The reply is its length and 2^32 times `uniqueness`, or 129 where the call refuses.
 // Rejected: one that replies the count; one that swaps a and b.
 #[no_mangle]
 pub extern "C" fn timing_register(

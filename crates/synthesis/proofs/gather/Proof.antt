@@ -108,8 +108,7 @@ returns : tie.Need-returns Inv-loop μ-loop
 returns c =
     let z = c .before .before .before .before in
     let l = c .before .before .loop in
-    let whole : l .last ≡ z .args .modulus = omega arith in
-    (gathered-a (l .inv .0) (z .pre .0) (omega arith), gathered-lengths (l .inv .0) (z .pre .0) (omega arith), logging-end (l .inv .1) (omega arith), sym (gathered-prime (l .inv .0) (z .pre .0) (omega arith) (l .last) (l .inv .2) whole))
+    (gathered-a (l .inv .0) (z .pre .0) (omega arith), gathered-lengths (l .inv .0) (z .pre .0) (omega arith), logging-end (l .inv .1) (omega arith), sym (gathered-other (l .inv .0) (z .pre .0) (omega arith) (l .last) (l .inv .2) (λ e. omega arith)))
 
 same-length-2 : tie.Need-same-length-2 Inv-loop μ-loop
 same-length-2 c = c .before .before .loop .inv .1 .noted .long
@@ -118,7 +117,8 @@ returns-2 : tie.Need-returns-2 Inv-loop μ-loop
 returns-2 c =
     let z = c .before .before .before .before in
     let l = c .before .before .loop in
-    (gathered-a (l .inv .0) (z .pre .0) (omega arith), gathered-lengths (l .inv .0) (z .pre .0) (omega arith), logging-end (l .inv .1) (omega arith), sym (gathered-other (l .inv .0) (z .pre .0) (omega arith) (l .last) (l .inv .2) (λ e. omega arith)))
+    let whole : l .last ≡ z .args .modulus = omega arith in
+    (gathered-a (l .inv .0) (z .pre .0) (omega arith), gathered-lengths (l .inv .0) (z .pre .0) (omega arith), logging-end (l .inv .1) (omega arith), sym (gathered-prime (l .inv .0) (z .pre .0) (omega arith) (l .last) (l .inv .2) whole))
 
 pub gather-spec : {M : Type 1} → statement M
 gather-spec =

@@ -1,4 +1,4 @@
--- Laws of the word beside the length: when each is said, and that they differ.
+-- Whether a register is the only one: when each of the three is said, and that they differ.
 -- Assumes nothing.
 use mathlib.Core.Path.{_≡_, refl, ap}
 use mathlib.Core.Bool.{Bool, true, false}
@@ -23,6 +23,6 @@ module _ (prime : Bool) (n l : ℕ) where
   unfolding uniquenessBy
   said-nothing e = rw e refl
 
--- two words with different values
-pub words-differ : {A : Type 0} (v w : Uniqueness) → uniqueness v < uniqueness w → v ≡ w → A
-words-differ v w h e = absurd (omega (arith, ap uniqueness e))
+-- two that have different values
+pub said-apart : {A : Type 0} (v w : Uniqueness) → uniqueness v < uniqueness w → v ≡ w → A
+said-apart v w h e = absurd (omega (arith, ap uniqueness e))
