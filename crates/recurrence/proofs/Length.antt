@@ -12,7 +12,7 @@ use Rattle.lists.specs.Sum.{sumTo}
 use Rattle.lists.proofs.Table.{length-tabulate, at-tabulate, at-past}
 use Rattle.lists.proofs.Sum.{sumTo-eq, sumTo-cut}
 use Rattle.residue.specs.Congruence.{Cong, neg}
-use Rattle.residue.proofs.Congruence.{rfl, of-eq, sy, tr, add, mul, modulo, zero-add-zero, add-neg, cancel}
+use Rattle.residue.proofs.Congruence.{rfl, of-eq, sy, tr, add, mul, modulo, zero-add-zero, add-neg, cancel, cong-divisor}
 use Rattle.recurrence.specs.Polynomial.{conv}
 use Rattle.recurrence.specs.Least.{combination, Gives, Least}
 use Rattle.recurrence.proofs.Series.{tail, summand, conv-sum, conv-comm, conv-add-l}
@@ -22,6 +22,20 @@ use Rattle.recurrence.proofs.Pairs.{Vanish, Deg, Agree, conv-zero}
 pub least-unique : (m : ℕ) (S : ℕ → ℕ) (k l l′ : ℕ) → Least m S k l → Least m S k l′ → l ≡ l′
 least-unique m S k l l′ x y =
     le-antisymm (subst (λ (n : ℕ). l ≤ n) (y .many) (x .least (y .some) (y .gives))) (subst (λ (n : ℕ). l′ ≤ n) (x .many) (y .least (x .some) (x .gives)))
+
+combination-cong : {q : ℕ} (cs : List ℕ) (S T : ℕ → ℕ) (j : ℕ) → length cs ≤ j → ((i : ℕ) → i < j → Cong q (S i) (T i))
+    → Cong q (combination cs S j) (combination cs T j)
+unfolding sumTo
+combination-cong {q} cs S T j h same = go (length cs) h
+  where
+    go : (n : ℕ) → n ≤ j → Cong q (sumTo n (λ i. at cs i * S (j - suc i))) (sumTo n (λ i. at cs i * T (j - suc i)))
+    go zero l = rfl
+    go (suc n) l = add (go n (omega arith)) (mul (rfl {a = at cs n}) (same (j - suc n) (omega arith)))
+
+-- coefficients that give the terms modulo m give, modulo a divisor q of m, all terms that are congruent to them there
+pub gives-divisor : (m q : ℕ) (S T : ℕ → ℕ) (k : ℕ) (cs : List ℕ) → m % q ≡ zero → ((j : ℕ) → j < k → Cong q (S j) (T j)) → Gives m S k cs → Gives q T k cs
+gives-divisor m q S T k cs d same g j h lt =
+    tr (sy (same j lt)) (tr (cong-divisor q m d (g j h lt)) (combination-cong cs S T j h (λ i l. same i (omega arith))))
 
 -- the sum of c_i S_(j-i) as a product of series
 pub combination-conv : (cs : List ℕ) (S : ℕ → ℕ) (j : ℕ) → length cs ≤ suc j → combination cs S (suc j) ≡ conv (at cs) S j

@@ -10,3 +10,4 @@ pub mod Register
 pub mod Running
 pub mod Working
 pub mod Start
+pub mod Merged

@@ -191,6 +191,16 @@ two-joined q r x y hx hy v =
     only u w (also a (also b none)) (also c (also d none)) =
         product q r (omega arith) (omega arith) v u w (record { same = a ∙ sym c }) (record { same = b ∙ sym d })
 
+-- the joined number of two is below the product and leaves both
+pub two-leaves : (q r x y : ℕ) → x < q → y < r → Invertible r q
+    → (joined (q * r) (two q x r y) < q * r) × (joined (q * r) (two q x r y) % q ≡ x) × (joined (q * r) (two q x r y) % r ≡ y)
+two-leaves q r x y hx hy v =
+    let e = two-joined q r x y hx hy v in (
+      subst (λ (z : ℕ). z < q * r) e (glue-lt q r (omega arith) v x y hx),
+      ap (λ (z : ℕ). z % q) (sym e) ∙ glue-left q r (omega arith) v x y .same ∙ mod-eq-of-lt hx,
+      ap (λ (z : ℕ). z % r) (sym e) ∙ glue-right q r (omega arith) v x y .same ∙ mod-eq-of-lt hy,
+    )
+
 -- ---- what the code of the join has of its numbers
 
 -- the second factor is at most the product

@@ -8,6 +8,7 @@ ghost use Rattle.residue.specs.Factors.{divisorsEnd, leastDivisor, least
 ghost use Rattle.residue.specs.Remainders.{joined, two};
 ghost use Rattle.residue.specs.Reduction.{scaleOf};
 ghost use Rattle.residue.specs.Signed.{residueOf};
+ghost use Rattle.residue.specs.Common.{commonDivisor};
 
 mod table;
 
@@ -214,4 +215,37 @@ pub fn join(z: u32, big: u32, x: u32, q: u32, i: u32) -> u32
     let d = sub(x, z % q, q);
     let s = mul(d, i, q);
     z + big * s
+}
+
+// The greatest common divisor, by Euclid's division: the remainder and a have the same one.
+pub fn common_divisor(a: u32, b: u32) -> u32
+    requires { ⌜ 0 < a ⌝ }
+    ensures { λ r. ⌜ r ≡ commonDivisor a b ⌝ }
+{
+    let r = b % a;
+    if r == 0 {
+        return a;
+    }
+    common_divisor(r, a)
+}
+
+// What `meet` multiplies by, the inverse of mu modulo nu: taken once for many remainders. Modulo 1 it is 0.
+pub fn meeter(mu: u32, nu: u32) -> u32
+    requires { ⌜ (0 < mu) × (0 < nu) × (mu * nu < 65536) × Coprime mu nu ⌝ }
+    ensures { λ r. ⌜ r ≡ inverse nu mu ⌝ }
+{
+    if nu <= 1 {
+        return 0;
+    }
+    joiner(mu, nu)
+}
+
+// `join` for two moduli mu g and nu g with a divisor in common: the one number below mu nu g that leaves x and y, which agree modulo g.
+// To the base g its last digit is theirs, and its quotient is joined of their quotients. i is the meeter of mu and nu.
+pub fn meet(x: u32, y: u32, mu: u32, nu: u32, g: u32, i: u32) -> u32
+    requires { ⌜ (x < mu * g) × (y < nu * g) × (x % g ≡ y % g) × (mu * nu * g < 65536) × Coprime mu nu × (i ≡ inverse nu mu) ⌝ }
+    ensures { λ r. ⌜ r ≡ joined (mu * nu * g) (two (mu * g) x (nu * g) y) ⌝ }
+{
+    let z = join(x / g, mu, y / g, nu, i);
+    z * g + x % g
 }
