@@ -46,6 +46,9 @@ refusal R.CandidateLength = refused 25
 refusal R.CandidateLead = refused 26
 refusal (R.LineForm i) = refusedAt 27 i
 refusal (R.LineRange i) = refusedAt 28 i
+refusal R.CountsDiffer = refused 29
+refusal R.MultipleAbove = refused 30
+refusal (R.TermsDisagree i) = refusedAt 31 i
 
 -- a place as a value
 abbrev pub placed : Place → List ℕ

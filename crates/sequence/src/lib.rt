@@ -19,7 +19,7 @@ ghost use Rattle.sequence.specs.Trace.{recordsOf, traceOf, traceAnswer, 
 ghost use Rattle.sequence.specs.Rules.{IsSound, outside, firstLarge, zeroFrom, faultOf, isSound, fresh, openOf, openAnswer, pushOf, pushAnswer, sequenceOf, checkedOf};
 
 // The largest modulus.
-const MAX_MODULUS: u32 = 4095;
+pub const MAX_MODULUS: u32 = 4095;
 
 // The number of terms that there is room for, as counts and lengths are held.
 pub const MAX_TERMS: u32 = TERMS as u32;
@@ -44,7 +44,7 @@ pub struct Sequence {
 }
 
 // Why a call was not done, or the rest of a column. `Answers.refusal` has the paper's number of each. A wrong term has its place, counted from 0, and so have the
-// byte that breaks a typed line's form and the digit that passes its range.
+// byte that breaks a typed line's form, the digit that passes its range, and two terms that disagree.
 pub enum Refusal {
     Modulus,
     Count,
@@ -60,6 +60,9 @@ pub enum Refusal {
     CandidateLead,
     LineForm(usize),
     LineRange(usize),
+    CountsDiffer,
+    MultipleAbove,
+    TermsDisagree(u32),
 }
 
 // The place that a refusal carries.
@@ -311,6 +314,9 @@ pub fn number(r: Refusal) -> u64
         Refusal::CandidateLead => 26,
         Refusal::LineForm(_) => 27,
         Refusal::LineRange(_) => 28,
+        Refusal::CountsDiffer => 29,
+        Refusal::MultipleAbove => 30,
+        Refusal::TermsDisagree(_) => 31,
     }
 }
 
@@ -322,6 +328,7 @@ pub fn place_of(r: Refusal) -> Place
         Refusal::Term(i) => Place::At(i as usize),
         Refusal::LineForm(i) => Place::At(i),
         Refusal::LineRange(i) => Place::At(i),
+        Refusal::TermsDisagree(i) => Place::At(i as usize),
         _ => Place::Nowhere,
     }
 }

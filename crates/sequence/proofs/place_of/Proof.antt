@@ -1,4 +1,4 @@
--- `sequence::place_of` meets its contract: of all refusals a wrong term's and those of a typed line carry a place.
+-- `sequence::place_of` meets its contract: of all refusals a wrong term's, those of a typed line and that of two terms that disagree carry a place.
 -- Assumes nothing.
 use mathlib.Core.Path.{_≡_, refl, sym, ap}
 use mathlib.Core.List.{List, [], _∷_}
@@ -16,14 +16,20 @@ use Rattle.sequence.proofs.place_of.Tie as tie
 enum-known-r : tie.Need-enum-known-r
 enum-known-r c = search needs
 
-cast-t6 : tie.Need-cast-t6
-cast-t6 c = search needs
+cast-t7 : tie.Need-cast-t7
+cast-t7 c = search needs
 
 enum-known-r-2 : tie.Need-enum-known-r-2
 enum-known-r-2 c = search needs
 
 enum-known-r-3 : tie.Need-enum-known-r-3
 enum-known-r-3 c = search needs
+
+enum-known-r-4 : tie.Need-enum-known-r-4
+enum-known-r-4 c = search needs
+
+cast-t8 : tie.Need-cast-t8
+cast-t8 c = search needs
 
 returns : tie.Need-returns
 returns c = ap (λ (x : Refusal). refusal x .values) (sym (c .before .r .given .1))
@@ -35,11 +41,14 @@ returns-3 : tie.Need-returns-3
 returns-3 c = ap (λ (x : Refusal). refusal x .values) (sym (c .before .r3 .given .1))
 
 returns-4 : tie.Need-returns-4
-returns-4 c = go (c .before .args .r) (c .match .keys4)
+returns-4 c = ap (λ (x : Refusal). refusal x .values) (sym (c .before .r4 .given .1))
+
+returns-5 : tie.Need-returns-5
+returns-5 c = go (c .before .args .r) (c .match .keys5)
   where
-    -- all but that of a term, which is 2, and those of a line, 12 and 13
+    -- all but that of a term, which is 2, those of a line, 12 and 13, and that of two terms, 16
     tags : List ℕ
-    tags = 0 ∷ 1 ∷ 3 ∷ 4 ∷ 5 ∷ 6 ∷ 7 ∷ 8 ∷ 9 ∷ 10 ∷ 11 ∷ []
+    tags = 0 ∷ 1 ∷ 3 ∷ 4 ∷ 5 ∷ 6 ∷ 7 ∷ 8 ∷ 9 ∷ 10 ∷ 11 ∷ 14 ∷ 15 ∷ []
 
     go : (r : Refusal) → OneOf tags (tagOf the-type r) → [] ≡ refusal r .values
     go R.Modulus k = refl
@@ -56,16 +65,22 @@ returns-4 c = go (c .before .args .r) (c .match .keys4)
     go R.CandidateLead k = refl
     go (R.LineForm i) k = absurd (miss tags 12 tt k)
     go (R.LineRange i) k = absurd (miss tags 13 tt k)
+    go R.CountsDiffer k = refl
+    go R.MultipleAbove k = refl
+    go (R.TermsDisagree i) k = absurd (miss tags 16 tt k)
 
 pub place-of-spec : {M : Type 1} → statement M
 place-of-spec =
     tie.close
     (tie.spec
     enum-known-r
-    cast-t6
+    cast-t7
     enum-known-r-2
     enum-known-r-3
+    enum-known-r-4
+    cast-t8
     returns
     returns-2
     returns-3
-    returns-4)
+    returns-4
+    returns-5)
