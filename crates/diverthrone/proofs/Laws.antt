@@ -31,6 +31,9 @@ at-place R.CandidateLength i = refl
 at-place R.CandidateLead i = refl
 at-place (R.LineForm j) i = refl
 at-place (R.LineRange j) i = refl
+at-place R.CountsDiffer i = refl
+at-place R.MultipleAbove i = refl
+at-place (R.TermsDisagree j) i = refl
 
 pub placed-code : (r : Refusal) {n i t : ℕ} {p : Place} → n ≡ refusal r .number → placed p ≡ refusal r .values → p ≡ At i → t ≡ min i lastPlace → n + 256 * t ≡ codeOf (refusal r)
 placed-code r {n} {i} e h k l =
