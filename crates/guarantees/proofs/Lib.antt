@@ -15,3 +15,5 @@ pub mod Lines
 pub mod Typed
 pub mod Listing
 pub mod Printed
+pub mod Merging
+pub mod Merged

@@ -43,6 +43,7 @@ places-carried =
       term = λ i. refl;
       form = λ i. refl;
       range = λ i. refl;
+      disagree = λ i. refl;
       last = refl;
       plain = plain;
       placed-code = λ n i h. ap (λ (v : ℕ). suc n + 256 * v) (let z : min i lastPlace ≡ i = omega arith in z);
@@ -50,21 +51,25 @@ places-carried =
       plain-code = λ n. (let z : n + 256 * 0 ≡ n = omega arith in z);
     }
   where
-    plain : (r : Refusal) → (refusal r .number ≡ 3 → ⊥) → (refusal r .number ≡ 27 → ⊥) → (refusal r .number ≡ 28 → ⊥) → refusal r ≡ refused (refusal r .number)
-    plain R.Modulus h k l = refl
-    plain R.Count h k l = refl
-    plain (R.Term i) h k l = absurd (h refl)
-    plain R.Padding h k l = refl
-    plain R.Buffer h k l = refl
-    plain R.CandidateCoefficient h k l = refl
-    plain R.Sequence h k l = refl
-    plain R.Full h k l = refl
-    plain R.Catalogue h k l = refl
-    plain R.Record h k l = refl
-    plain R.CandidateLength h k l = refl
-    plain R.CandidateLead h k l = refl
-    plain (R.LineForm i) h k l = absurd (k refl)
-    plain (R.LineRange i) h k l = absurd (l refl)
+    plain : (r : Refusal) → (refusal r .number ≡ 3 → ⊥) → (refusal r .number ≡ 27 → ⊥) → (refusal r .number ≡ 28 → ⊥) → (refusal r .number ≡ 31 → ⊥)
+        → refusal r ≡ refused (refusal r .number)
+    plain R.Modulus h k l m = refl
+    plain R.Count h k l m = refl
+    plain (R.Term i) h k l m = absurd (h refl)
+    plain R.Padding h k l m = refl
+    plain R.Buffer h k l m = refl
+    plain R.CandidateCoefficient h k l m = refl
+    plain R.Sequence h k l m = refl
+    plain R.Full h k l m = refl
+    plain R.Catalogue h k l m = refl
+    plain R.Record h k l m = refl
+    plain R.CandidateLength h k l m = refl
+    plain R.CandidateLead h k l m = refl
+    plain (R.LineForm i) h k l m = absurd (k refl)
+    plain (R.LineRange i) h k l m = absurd (l refl)
+    plain R.CountsDiffer h k l m = refl
+    plain R.MultipleAbove h k l m = refl
+    plain (R.TermsDisagree i) h k l m = absurd (m refl)
 
 -- ---- where a query is wrong
 
@@ -91,7 +96,7 @@ first-term query i r f =
     }
 
 -- a query that passes its checks is clean
-passed-clean : (query : List ℕ) → checkOf query ≡ O.Done → Clean query
+pub passed-clean : (query : List ℕ) → checkOf query ≡ O.Done → Clean query
 unfolding sequenceOf
 passed-clean query h =
     record {
@@ -103,7 +108,7 @@ passed-clean query h =
     k : (length query ≡ queryBytes) × IsSound (sequenceOf query)
     k = check-done query h
 
-clean-passed : (query : List ℕ) → Clean query → checkOf query ≡ O.Done
+pub clean-passed : (query : List ℕ) → Clean query → checkOf query ≡ O.Done
 unfolding sequenceOf
 clean-passed query c =
     done-check query (c .readable .size)

@@ -10,3 +10,5 @@ pub mod Columns
 pub mod Lines
 pub mod Typed
 pub mod Listing
+pub mod Merging
+pub mod Merged

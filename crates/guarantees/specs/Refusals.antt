@@ -24,12 +24,14 @@ use Rattle.guarantees.specs.Calls.{Call, afterAll, taken}
 
 -- ---- the place that a refusal carries
 
--- 3, 27 and 28 carry one place, and no other refusal carries any
+-- 3, 27, 28 and 31 carry one place, and no other refusal carries any
 pub record PlacesCarried : Type 0 where
   pub term : (i : ℕ) → refusal (R.Term i) ≡ refusedAt 3 i
   pub form : (i : ℕ) → refusal (R.LineForm i) ≡ refusedAt 27 i
   pub range : (i : ℕ) → refusal (R.LineRange i) ≡ refusedAt 28 i
-  pub plain : (r : Refusal) → (refusal r .number ≡ 3 → ⊥) → (refusal r .number ≡ 27 → ⊥) → (refusal r .number ≡ 28 → ⊥) → refusal r ≡ refused (refusal r .number)
+  pub disagree : (i : ℕ) → refusal (R.TermsDisagree i) ≡ refusedAt 31 i
+  pub plain : (r : Refusal) → (refusal r .number ≡ 3 → ⊥) → (refusal r .number ≡ 27 → ⊥) → (refusal r .number ≡ 28 → ⊥) → (refusal r .number ≡ 31 → ⊥)
+      → refusal r ≡ refused (refusal r .number)
   -- it is the value that C gets, up to the last that fits there, 2^56 - 1; past it that one
   pub last : lastPlace + 1 ≡ 2 ^ 56
   pub placed-code : (n i : ℕ) → i ≤ lastPlace → codeOf (refusedAt (suc n) i) ≡ suc n + 256 * i
@@ -74,7 +76,7 @@ pub record PushPlaced (m n : ℕ) (s : Sequence) (t : ℕ) : Type 0 where
   pub told-large : (i : ℕ) → pushOf s t .outcome ≡ O.Refused (R.Term i) → (n < maxTerms) × (m ≤ t) × (i ≡ n)
   pub large-told : n < maxTerms → m ≤ t → pushOf s t .outcome ≡ O.Refused (R.Term n)
 
--- every call that replies 3, but for a column, of which Columns says it; and a query that is clean passes its checks, which is what the claims about records and about testing ask
+-- every call that replies 3, but for a column, of which Columns says it, and a merger, of which Merging does; and a query that is clean passes its checks, which is what the claims about records and about testing ask
 pub record EveryPlace : Type 0 where
   pub passed-clean : (query : List ℕ) → checkOf query ≡ O.Done → Clean query
   pub clean-passed : (query : List ℕ) → Clean query → checkOf query ≡ O.Done

@@ -417,6 +417,31 @@ fn read_line(c: Call) -> bool {
     read_line_in(&mut line[0..x], &mut query[0..y])
 }
 
+fn merge_in(first: &mut [u8], second: &mut [u8], query: &mut [u8]) -> bool {
+    if is_cut(first) {
+        return false;
+    }
+    if is_cut(second) {
+        return false;
+    }
+    let o = merge::merge(first, second, query);
+    printing::text(b"merge ");
+    outcome(o);
+    end_hash(hash(query));
+    true
+}
+
+fn merge(c: Call) -> bool {
+    let fill = c.fill;
+    let x = c.x as usize;
+    let y = c.y as usize;
+    let z = c.z as usize;
+    let mut first = [0u8; 65536];
+    let mut second = [0u8; 65536];
+    let mut query = [fill; 65536];
+    merge_in(&mut first[0..x], &mut second[0..y], &mut query[0..z])
+}
+
 fn forge(s: Sequence, c: Call) -> Turn {
     if c.x as usize != QUERY_BYTES {
         printing::text(b"script bad forge\n");
@@ -453,6 +478,7 @@ fn act(s: Sequence, c: Call) -> Turn {
         9 => trace(s, c),
         10 => kept(s, read_line(c)),
         11 => push_all(s, c),
+        12 => kept(s, merge(c)),
         _ => unknown(s, operation),
     }
 }
