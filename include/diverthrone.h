@@ -17,15 +17,15 @@
  * 2,147,483,647 and stands for its remainder from 0 to m - 1: -1 is m - 1, and -0 is 0.
  *
  * Replies. Every function answers refusal + 256 * value; take them apart with diverthrone_refusal and diverthrone_value.
- * On a refusal every lent buffer holds what it held. With refusals 3, 27 and 28 the value is a place, counted from 0 (above 2^56 - 1, which
- * only a line could reach, it is told as 2^56 - 1), with every other refusal it is 0.
+ * On a refusal every lent buffer holds what it held. With refusals 3, 27, 28 and 31 the value is a place, counted from 0 (above 2^56 - 1,
+ * which only a line could reach, it is told as 2^56 - 1), with every other refusal it is 0.
  *
  *    refusal  meaning
  *       0     none
  *       1     the modulus is below 2 or above 4,095
  *       2     the count of terms, or of cells to run, is above 128
- *       3     one of the query's terms is not below the modulus; the value is the place of the first of them
- *       4     the query holds something other than zero past its count
+ *       3     one of a query's terms is not below its modulus; the value is the place of the first of them
+ *       4     a query holds something other than zero past its count
  *       5     a lent buffer has another length than stated, or the cells to run are an odd number of bytes
  *       6     a candidate has a coefficient not below m, or a nonzero one past its end (a past the length, b from the length on)
  *      23     the catalogue's length is not a multiple of 778
@@ -35,6 +35,10 @@
  *      27     the line breaks its form; the value is the place of the first byte that no line of this form with the same bytes before it
  *             has there, or the line's length if it ends too soon
  *      28     a typed term is out of its range, or a typed modulus above 2,147,483,647; the value is the place of the digit that passes it
+ *      29     the counts of the two queries differ
+ *      30     the least common multiple of the two moduli is above 4,095
+ *      31     two terms at the same place disagree modulo the greatest common divisor of the moduli, so that no number leaves both; the value
+ *             is the place of the first such pair
  *
  * Where several apply the first is given, in the order that each function states.
  *
@@ -94,6 +98,17 @@ uint64_t diverthrone_generate(uint32_t modulus, const uint8_t *a, size_t a_len, 
  * Refusals in order: 5 (query), 27 or 28 (whichever is met first from left to right), 1, 2. */
 uint64_t diverthrone_read_line(const uint8_t *line, size_t line_len, uint8_t *query, size_t query_len);
 
+/* Merges two queries of the same sequence to one modulo the least common multiple of their moduli, with the same count. Each of its terms is
+ * the one number below the multiple that leaves the first query's term modulo the first modulus and the second's modulo the second: 7,2,11
+ * modulo 12 and 13,2,17 modulo 18 give 31,2,35 modulo 36. Value 0. The first and the second may be the same buffer.
+ * For every k the least length of its first k terms is the larger of the two queries' least lengths, so its register's length is the larger
+ * of the two lengths. Its coefficients need not leave those of the two registers, which may disagree.
+ * Refusals in order: 5 (first, second, query), the first's 1, 2, 3, 4, the second's 1, 2, 3, 4, then 29, 30, 31.
+ * 1, 2, 3 with its place, and 4 do not tell which of the two queries they mean: it is the first if diverthrone_synthesize refuses that one,
+ * which it then does with the same reply, else the second. */
+uint64_t diverthrone_merge(const uint8_t *first, size_t first_len, const uint8_t *second, size_t second_len, uint8_t *query,
+                           size_t query_len);
+
 static inline unsigned diverthrone_refusal(uint64_t reply) { return (unsigned)(reply % 256); }
 
 static inline uint64_t diverthrone_value(uint64_t reply) { return reply / 256; }
@@ -143,11 +158,18 @@ static inline uint64_t diverthrone_read_line_null(const uint8_t *line, size_t li
     return diverthrone_read_line(diverthrone_in(line, line_len), line_len, diverthrone_out(query, query_len), query_len);
 }
 
+static inline uint64_t diverthrone_merge_null(const uint8_t *first, size_t first_len, const uint8_t *second, size_t second_len,
+                                              uint8_t *query, size_t query_len) {
+    return diverthrone_merge(diverthrone_in(first, first_len), first_len, diverthrone_in(second, second_len), second_len,
+                             diverthrone_out(query, query_len), query_len);
+}
+
 #define diverthrone_synthesize diverthrone_synthesize_null
 #define diverthrone_look_up diverthrone_look_up_null
 #define diverthrone_verify diverthrone_verify_null
 #define diverthrone_generate diverthrone_generate_null
 #define diverthrone_read_line diverthrone_read_line_null
+#define diverthrone_merge diverthrone_merge_null
 
 #ifdef __cplusplus
 }

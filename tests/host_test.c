@@ -1,6 +1,6 @@
 /* The C interface from C: every refusal with its place and order, every verdict, found and made, what editors and visitors see, every byte
- * at every place of a typed line, buffers of every wrong length, NULL for every slice, and that a refusal changes no byte. Expected values
- * are the scope's cases or follow from its words; guard bytes stand around every buffer. It is built as C++ too. */
+ * at every place of a typed line, merged queries, buffers of every wrong length, NULL for every slice, and that a refusal changes no byte.
+ * Expected values are the scope's cases or follow from its words; guard bytes stand around every buffer. It is built as C++ too. */
 #include "diverthrone.h"
 
 #include <stdio.h>
@@ -132,17 +132,26 @@ static uint64_t read_line(struct lent *line, struct lent *query) {
     return reply;
 }
 
+static uint64_t merge(struct lent *one, struct lent *two, struct lent *query) {
+    called = "merge";
+    keep(one), keep(two), keep(query);
+    uint64_t reply = diverthrone_merge(given(one), one->len, given(two), two->len, given(query), query->len);
+    check(unchanged(one) && unchanged(two), "merge leaves the two queries");
+    check(guarded(query), "merge keeps to the query");
+    return reply;
+}
+
 /* Case 3. */
 static const unsigned nine[] = {6, 3, 1, 5, 6}, nine_a[] = {1, 4, 7, 1}, nine_b[] = {6, 0, 1};
-static struct lent q, r, c, a, b, cells;
+static struct lent q, r, c, a, b, cells, other, merged;
 
-/* The whole reply is compared: beside every refusal but 3, 27 and 28 the value is 0. */
+/* The whole reply is compared: beside every refusal but 3, 27, 28 and 31 the value is 0. */
 static void refused(uint64_t reply, uint64_t number, const struct lent *out, const char *what) {
     check(reply == number, what);
     check(out == NULL || unchanged(out), what);
 }
 
-/* Refusals 3, 27 and 28: the value is the place itself. */
+/* Refusals 3, 27, 28 and 31: the value is the place itself. */
 static void refused_at(uint64_t reply, unsigned number, size_t place, const struct lent *out, const char *what) {
     check(diverthrone_refusal(reply) == number && diverthrone_value(reply) == place, what);
     check(out == NULL || unchanged(out), what);
@@ -188,10 +197,18 @@ static void query_refusals(void) {
     }
 }
 
-/* What goes with a query: case 3's register as a candidate, no catalogue, a record to write. */
+/* What goes with a query: case 3's register as a candidate, no catalogue, a record to write; case 3 to merge it with, a query to write. */
 static void lend_the_rest(void) {
     put_all(&a, 129, nine_a, 4), put_all(&b, 128, nine_b, 3);
     lend(&c, 0, 0), lend(&r, RECORD, 0x5A);
+    make_query(&other, 9, nine, 5), lend(&merged, QUERY, 0x5A);
+}
+
+/* A merge with it as the first, as the second and as both. */
+static void merges_refuse(uint64_t reply, const char *what) {
+    refused(merge(&q, &other, &merged), reply, &merged, what);
+    refused(merge(&other, &q, &merged), reply, &merged, what);
+    refused(merge(&q, &q, &merged), reply, &merged, what);
 }
 
 /* What each call that takes a query refuses it with. */
@@ -199,12 +216,14 @@ static void all_refuse(unsigned number, const char *what) {
     refused(synthesize(&q, &r), number, &r, what);
     refused(look_up(&q, &c, &r), number, &r, what);
     refused(verify(&q, &a, &b, 3), number, NULL, what);
+    merges_refuse(number, what);
 }
 
 static void all_refuse_at(unsigned place, const char *what) {
     refused_at(synthesize(&q, &r), 3, place, &r, what);
     refused_at(look_up(&q, &c, &r), 3, place, &r, what);
     refused_at(verify(&q, &a, &b, 3), 3, place, NULL, what);
+    merges_refuse(3 + 256 * (uint64_t)place, what);
 }
 
 static void wrong_terms(void) {
@@ -293,11 +312,15 @@ static void case_15(void) {
     check(synthesize(&q, &r) == 0 && length_in(&r) == 1, "case 15: synthesize accepts 128 terms");
     check(look_up(&q, &c, &r) == 0, "case 15: look_up accepts 128 terms");
     check(verify(&q, &a, &b, 1) == 0, "case 15: verify accepts 128 terms");
-    lend(&r, RECORD, 0x5A);
+    lend(&merged, QUERY, 0x5A);
+    check(merge(&q, &q, &merged) == 0, "case 15: merge accepts 128 terms");
+    lend(&r, RECORD, 0x5A), lend(&merged, QUERY, 0x5A);
+    make_query(&other, 4095, many, 128);
     put(start(&q), 1, 129);
     refused(synthesize(&q, &r), 2, &r, "case 15: synthesize refuses count 129 with 2");
     refused(look_up(&q, &c, &r), 2, &r, "case 15: look_up refuses count 129 with 2");
     refused(verify(&q, &a, &b, 1), 2, NULL, "case 15: verify refuses count 129 with 2");
+    merges_refuse(2, "case 15: merge refuses count 129 with 2");
     put(start(&q), 1, 65535);
     refused(synthesize(&q, &r), 2, &r, "65,535 terms");
 }
@@ -983,6 +1006,336 @@ static void handed_on(void) {
     check(read_line(&line, &typed) == 0 && synthesize(&typed, &made) == 0, "128 typed terms");
 }
 
+/* ---- two queries ---- */
+
+/* The queries in `q` and `other` are merged to the one in `want`, in either order. */
+static void merged_to_want(const char *what) {
+    lend(&merged, QUERY, 0x5A);
+    check(merge(&q, &other, &merged) == 0, what);
+    check(memcmp(start(&merged), start(&want), QUERY) == 0, what);
+    lend(&merged, QUERY, 0xFF);
+    check(merge(&other, &q, &merged) == 0, what);
+    check(memcmp(start(&merged), start(&want), QUERY) == 0, what);
+}
+
+/* They are refused, in either order, with 29 and 30 with the value 0. */
+static void merge_refused(unsigned number, size_t place, const char *what) {
+    lend(&merged, QUERY, 0x5A);
+    refused_at(merge(&q, &other, &merged), number, place, &merged, what);
+    refused_at(merge(&other, &q, &merged), number, place, &merged, what);
+}
+
+/* Two moduli and their multiple, n terms modulo the first, modulo the second and modulo the multiple, by hand. */
+static const struct {
+    unsigned m[3], n, terms[3][6];
+    const char *what;
+} pairs_of_queries[] = {
+    {{12, 18, 36}, 3, {{7, 2, 11}, {13, 2, 17}, {31, 2, 35}}, "12 and 18"},
+    {{12, 18, 36}, 1, {{1}, {13}, {13}}, "12 and 18: 1 and 13 agree modulo 12 too"},
+    {{12, 18, 36}, 1, {{0}, {12}, {12}}, "12 and 18: 0 and 12 agree modulo 12 too"},
+    {{12, 18, 36}, 1, {{7}, {1}, {19}}, "12 and 18: 7 and 1 agree modulo 6 only"},
+    {{12, 18, 36}, 6, {{1, 0, 7, 11, 0, 6}, {13, 12, 1, 5, 6, 0}, {13, 12, 19, 23, 24, 18}}, "12 and 18, six terms"},
+    {{12, 18, 36}, 0, {{0}, {0}, {0}}, "12 and 18, no terms"},
+    {{2, 3, 6}, 6, {{0, 1, 0, 1, 0, 1}, {0, 1, 2, 0, 1, 2}, {0, 1, 2, 3, 4, 5}}, "2 and 3, every number"},
+    {{4, 9, 36}, 6, {{3, 0, 1, 0, 2, 3}, {8, 0, 0, 1, 7, 2}, {35, 0, 9, 28, 34, 11}}, "4 and 9, coprime"},
+    {{9, 9, 9}, 5, {{6, 3, 1, 5, 6}, {6, 3, 1, 5, 6}, {6, 3, 1, 5, 6}}, "9 and 9, equal"},
+    {{2, 2, 2}, 3, {{1, 0, 1}, {1, 0, 1}, {1, 0, 1}}, "2 and 2, equal"},
+    {{2, 2, 2}, 0, {{0}, {0}, {0}}, "2 and 2, no terms"},
+    {{4095, 4095, 4095}, 4, {{4094, 0, 1, 256}, {4094, 0, 1, 256}, {4094, 0, 1, 256}}, "4,095 and 4,095, equal"},
+    {{2048, 2048, 2048}, 2, {{2047, 1024}, {2047, 1024}, {2047, 1024}}, "2,048 and 2,048: their product ends in 16 zero bits"},
+    {{4, 12, 12}, 6, {{3, 0, 1, 2, 0, 3}, {11, 4, 5, 2, 8, 7}, {11, 4, 5, 2, 8, 7}}, "4 divides 12"},
+    {{3, 9, 9}, 4, {{2, 0, 1, 0}, {8, 3, 7, 0}, {8, 3, 7, 0}}, "3 divides 9"},
+    {{5, 4095, 4095}, 3, {{4, 0, 1}, {4094, 0, 256}, {4094, 0, 256}}, "5 divides 4,095"},
+    {{1024, 2048, 2048}, 3, {{1023, 0, 1}, {2047, 1024, 1}, {2047, 1024, 1}}, "1,024 divides 2,048"},
+    {{63, 65, 4095}, 6, {{62, 0, 1, 0, 1, 62}, {64, 0, 1, 1, 0, 0}, {4094, 0, 1, 2016, 2080, 2015}}, "63 and 65 give 4,095"},
+    {{2047, 2, 4094}, 6, {{2046, 2046, 0, 0, 1, 1}, {0, 1, 1, 0, 0, 1}, {2046, 4093, 2047, 0, 2048, 1}}, "2,047 and 2 give 4,094"},
+    {{64, 63, 4032}, 4, {{63, 0, 1, 0}, {62, 1, 0, 0}, {4031, 64, 3969, 0}}, "64 and 63 give 4,032"},
+    {{1365, 819, 4095}, 5, {{1364, 0, 1, 1, 0}, {818, 273, 1, 274, 0}, {4094, 2730, 1, 2731, 0}}, "1,365 and 819 give 4,095"}};
+
+static void queries_that_are_merged(void) {
+    for (size_t i = 0; i < sizeof pairs_of_queries / sizeof *pairs_of_queries; i++) {
+        const unsigned *m = pairs_of_queries[i].m, n = pairs_of_queries[i].n;
+        make_query(&q, m[0], pairs_of_queries[i].terms[0], n);
+        make_query(&other, m[1], pairs_of_queries[i].terms[1], n);
+        make_query(&want, m[2], pairs_of_queries[i].terms[2], n);
+        merged_to_want(pairs_of_queries[i].what);
+        lend(&merged, QUERY, 0x5A);
+        check(merge(&q, &q, &merged) == 0, "the same buffer as the first and the second");
+        check(memcmp(start(&merged), start(&q), QUERY) == 0, "a query merged with itself is itself");
+    }
+}
+
+/* All terms modulo two moduli, behind one that agrees: the number is found by looking at each below the multiple, or there is none. */
+static void every_pair_of_terms(void) {
+    static const unsigned moduli[][3] = {{12, 18, 36}, {4, 9, 36}, {6, 6, 6}, {4, 12, 12}, {8, 12, 24}, {2, 2, 2}, {10, 15, 30}};
+    for (size_t i = 0; i < sizeof moduli / sizeof *moduli; i++) {
+        const unsigned *m = moduli[i];
+        for (unsigned pair = 0; pair < m[0] * m[1]; pair++) {
+            unsigned x[] = {1, pair % m[0]}, y[] = {1, pair / m[0]}, z[] = {1, 0};
+            char what[64];
+            while (z[1] < m[2] && (z[1] % m[0] != x[1] || z[1] % m[1] != y[1])) z[1]++;
+            snprintf(what, sizeof what, "%u modulo %u and %u modulo %u", x[1], m[0], y[1], m[1]);
+            make_query(&q, m[0], x, 2), make_query(&other, m[1], y, 2), make_query(&want, m[2], z, 2);
+            if (z[1] < m[2])
+                merged_to_want(what);
+            else
+                merge_refused(31, 1, what);
+        }
+    }
+}
+
+/* 128 numbers below the multiple, which `want` gets; `q` and `other` get what they leave. */
+static void split_many(const unsigned m[3]) {
+    unsigned x[128], y[128], z[128];
+    for (unsigned i = 0; i < 128; i++) {
+        z[i] = i == 0 ? m[2] - 1 : (37 * i * i + 1009 * i + 5) % m[2];
+        x[i] = z[i] % m[0], y[i] = z[i] % m[1];
+    }
+    make_query(&q, m[0], x, 128), make_query(&other, m[1], y, 128), make_query(&want, m[2], z, 128);
+}
+
+static void many_terms(void) {
+    static const unsigned moduli[][3] = {{12, 18, 36},      {4, 9, 36},     {63, 65, 4095},    {2047, 2, 4094},    {4095, 4095, 4095},
+                                         {819, 4095, 4095}, {64, 63, 4032}, {1365, 819, 4095}, {2048, 1024, 2048}, {2, 2, 2}};
+    for (size_t i = 0; i < sizeof moduli / sizeof *moduli; i++) {
+        split_many(moduli[i]);
+        merged_to_want("128 terms");
+        put(start(&q), 1, 127), put(start(&other), 1, 127), put(start(&want), 1, 127);
+        put(start(&q), 2 + 127, 0), put(start(&other), 2 + 127, 0), put(start(&want), 2 + 127, 0);
+        merged_to_want("127 terms");
+    }
+}
+
+/* The term of `other` at a place becomes the next one, which agrees modulo no number but 1. */
+static void shift(size_t place) {
+    unsigned m = diverthrone_cell(start(&other), 0), term = diverthrone_cell(start(&other), 2 + place);
+    put(start(&other), 2 + place, (term + 1) % m);
+}
+
+/* Terms that disagree, at one place or at several: the first is told. */
+static void terms_that_disagree(void) {
+    static const unsigned moduli[][3] = {{12, 18, 36}, {4095, 4095, 4095}, {1365, 819, 4095}};
+    const unsigned seven[] = {7}, dozen[] = {12}, three[] = {3}, ten[] = {10};
+    make_query(&q, 12, seven, 1), make_query(&other, 18, dozen, 1);
+    merge_refused(31, 0, "12 and 18: 7 and 12 disagree modulo 6");
+    make_query(&q, 4, three, 1), make_query(&other, 12, ten, 1);
+    merge_refused(31, 0, "4 and 12: 3 and 10 disagree modulo 4");
+    make_query(&q, 9, seven, 1), make_query(&other, 9, three, 1);
+    merge_refused(31, 0, "9 and 9: 7 and 3");
+    for (size_t i = 0; i < 3; i++) {
+        for (size_t place = 0; place < 128; place++) {
+            split_many(moduli[i]);
+            shift(place);
+            merge_refused(31, place, "one pair of 128 disagrees");
+        }
+        split_many(moduli[i]);
+        shift(127), shift(126);
+        merge_refused(31, 126, "the last two disagree");
+        shift(64);
+        merge_refused(31, 64, "64, 126 and 127 disagree");
+        shift(1), shift(2), shift(3);
+        merge_refused(31, 1, "1, 2, 3, 64, 126 and 127 disagree");
+        for (size_t place = 0; place < 128; place++) shift(place);
+        merge_refused(31, 0, "all disagree");
+    }
+}
+
+/* Multiples above 4,095; 65,792 would be 256 if it were cut to 16 bits. */
+static void multiples_above(void) {
+    static const unsigned moduli[][2] = {{64, 65},     {17, 241},    {2049, 2},    {2, 4095},  {256, 257},   {2048, 3},  {4094, 4},
+                                         {4093, 4091}, {4095, 4094}, {1365, 1364}, {2730, 52}, {2048, 2047}, {4092, 18}, {4095, 4092}};
+    for (size_t i = 0; i < sizeof moduli / sizeof *moduli; i++) {
+        char what[64];
+        snprintf(what, sizeof what, "%u and %u have a multiple above 4,095", moduli[i][0], moduli[i][1]);
+        for (unsigned n = 0; n <= 128; n += 64) {
+            unsigned zeros[128] = {0};
+            make_query(&q, moduli[i][0], zeros, n), make_query(&other, moduli[i][1], zeros, n);
+            merge_refused(30, 0, what);
+        }
+    }
+}
+
+/* Zeros: what is past the counts is zero, so nothing but the counts differs. */
+static void counts_that_differ(void) {
+    static const unsigned counts[][2] = {{0, 1}, {1, 2}, {4, 5}, {0, 128}, {127, 128}, {64, 128}};
+    unsigned zeros[128] = {0};
+    for (size_t i = 0; i < sizeof counts / sizeof *counts; i++) {
+        make_query(&q, 12, zeros, counts[i][0]), make_query(&other, 18, zeros, counts[i][1]);
+        merge_refused(29, 0, "12 and 18, counts that differ");
+        make_query(&other, 12, zeros, counts[i][1]);
+        merge_refused(29, 0, "12 and 12, counts that differ");
+    }
+}
+
+/* Two queries that are merged, and whatever can be wrong with them in the order of the refusals. No two places of terms are the same, and a
+ * later refusal has a lower one. With the modulus 4,092 the multiple is 12,276, and the common divisor is still 6. */
+static const unsigned first_terms[] = {7, 2, 11, 0, 4}, second_terms[] = {13, 2, 17, 6, 10};
+
+enum fault {
+    FIRST_LENGTH,
+    SECOND_LENGTH,
+    QUERY_LENGTH,
+    FIRST_1,
+    FIRST_2,
+    FIRST_3,
+    FIRST_4,
+    SECOND_1,
+    SECOND_2,
+    SECOND_3,
+    SECOND_4,
+    COUNTS,
+    MULTIPLE,
+    DISAGREE,
+    FAULTS
+};
+
+static const uint64_t fault_replies[FAULTS] = {5, 5, 5, 1, 2, 3 + 256 * 3, 4, 1, 2, 3 + 256 * 2, 4, 29, 30, 31 + 256 * 1};
+
+static void make_fault(int fault) {
+    switch (fault) {
+    case FIRST_LENGTH: q.len = 259; break;
+    case SECOND_LENGTH: other.len = 259; break;
+    case QUERY_LENGTH: lend(&merged, 259, 0x5A); break;
+    case FIRST_1: put(start(&q), 0, 4096); break;
+    case FIRST_2: put(start(&q), 1, 129); break;
+    case FIRST_3: put(start(&q), 2 + 3, 65535); break;
+    case FIRST_4: put(start(&q), 2 + 127, 1); break;
+    case SECOND_1: put(start(&other), 0, 1); break;
+    case SECOND_2: put(start(&other), 1, 129); break;
+    case SECOND_3: put(start(&other), 2 + 2, 65535); break;
+    case SECOND_4: put(start(&other), 2 + 127, 1); break;
+    case COUNTS: put(start(&other), 1, 4), put(start(&other), 2 + 4, 0); break;
+    case MULTIPLE: put(start(&q), 0, 4092); break;
+    default: put(start(&other), 2 + 1, 3); break;
+    }
+}
+
+/* With these faults, one bit each, the first of them is told. The last are made first, since the first must stand. */
+static void faults_told(unsigned faults) {
+    char what[64];
+    int least = FAULTS;
+    make_query(&q, 12, first_terms, 5), make_query(&other, 18, second_terms, 5);
+    lend(&merged, QUERY, 0x5A);
+    for (int i = FAULTS - 1; i >= 0; i--)
+        if (faults >> i & 1) make_fault(i), least = i;
+    snprintf(what, sizeof what, "the faults with the bits %x", faults);
+    uint64_t reply = merge(&q, &other, &merged);
+    check(reply == (least == FAULTS ? 0 : fault_replies[least]), what);
+    check(least == FAULTS || unchanged(&merged), what);
+    if (least < FIRST_1 || least > SECOND_4) return;
+    lend(&r, RECORD, 0x5A);
+    uint64_t own = synthesize(&q, &r);
+    check(least <= FIRST_4 ? own == reply : own == 0, "which of the two is meant, found as the header says");
+}
+
+/* Each fault alone, with each later one, and with all later ones. */
+static void order_in_merges(void) {
+    faults_told(0);
+    for (int i = 0; i < FAULTS; i++) {
+        for (int j = i; j < FAULTS; j++) faults_told(1u << i | 1u << j);
+        faults_told((1u << FAULTS) - (1u << i));
+    }
+}
+
+/* Each of the three buffers, and several of them, of each wrong length. */
+static void merges_of_other_lengths(void) {
+    static const size_t lens[] = {0, 1, 259, 261, 520};
+    for (size_t i = 0; i < sizeof lens / sizeof *lens; i++)
+        for (int wrong = 1; wrong < 8; wrong++) {
+            make_query(&q, 12, first_terms, 5), make_query(&other, 18, second_terms, 5);
+            lend(&merged, QUERY, 0x5A);
+            if (wrong & 1) q.len = lens[i];
+            if (wrong & 2) other.len = lens[i];
+            if (wrong & 4) lend(&merged, lens[i], 0x5A);
+            refused(merge(&q, &other, &merged), 5, &merged, "a buffer of another length than 260");
+        }
+}
+
+/* The first k of n terms. */
+static void first_of(struct lent *to, struct lent *from, unsigned k) {
+    lend(to, QUERY, 0);
+    memcpy(start(to), start(from), 4 + 2 * k);
+    put(start(to), 1, k);
+}
+
+static unsigned length_of(struct lent *from, unsigned k) {
+    static struct lent some;
+    first_of(&some, from, k);
+    lend(&r, RECORD, 0x5A);
+    check(synthesize(&some, &r) == 0, "a register of the first terms");
+    return length_in(&r);
+}
+
+/* `q` and `other` are merged; for every k the length of the first k terms is the larger of the two. */
+static void lengths_are_larger(unsigned n, const char *what) {
+    lend(&merged, QUERY, 0x5A);
+    check(merge(&q, &other, &merged) == 0, what);
+    for (unsigned k = 0; k <= n; k++) {
+        unsigned one = length_of(&q, k), two = length_of(&other, k);
+        check(length_of(&merged, k) == (one > two ? one : two), what);
+    }
+}
+
+/* Two moduli, n terms modulo each of them, and the lengths of both. */
+static const struct {
+    unsigned m[2], n, terms[2][6], lengths[2];
+    const char *what;
+} two_lengths[] = {{{9, 7}, 5, {{6, 3, 1, 5, 6}, {1, 1, 2, 3, 5}}, {3, 2}, "case 3 and a beginning of case 9"},
+                   {{4, 9}, 4, {{0, 0, 0, 0}, {1, 1, 2, 3}}, {0, 2}, "zeros and a recurrence"},
+                   {{9, 4}, 6, {{5, 5, 5, 5, 5, 5}, {0, 0, 0, 0, 0, 1}}, {1, 6}, "a constant and a last 1"},
+                   {{7, 2}, 6, {{1, 1, 2, 3, 5, 1}, {1, 1, 0, 1, 1, 0}}, {2, 2}, "Fibonacci numbers modulo 7 and modulo 2"},
+                   {{12, 18}, 2, {{2, 2}, {2, 2}}, {1, 1}, "2,2 modulo 12 and modulo 18"},
+                   {{12, 18}, 4, {{0, 0, 0, 6}, {0, 0, 0, 0}}, {4, 0}, "a last 6 and zeros, not coprime"},
+                   {{9, 9}, 5, {{6, 3, 1, 5, 6}, {6, 3, 1, 5, 6}}, {3, 3}, "case 3 twice"},
+                   {{3, 9}, 5, {{0, 0, 1, 2, 0}, {6, 3, 1, 5, 6}}, {3, 3}, "case 3 and what it leaves modulo 3"},
+                   {{12, 18}, 0, {{0}, {0}}, {0, 0}, "no terms"}};
+
+static void merged_lengths(void) {
+    static const unsigned moduli[][3] = {{12, 18, 36}, {63, 65, 4095}, {2047, 2, 4094}};
+    for (size_t i = 0; i < sizeof two_lengths / sizeof *two_lengths; i++) {
+        unsigned n = two_lengths[i].n;
+        make_query(&q, two_lengths[i].m[0], two_lengths[i].terms[0], n);
+        make_query(&other, two_lengths[i].m[1], two_lengths[i].terms[1], n);
+        check(length_of(&q, n) == two_lengths[i].lengths[0], two_lengths[i].what);
+        check(length_of(&other, n) == two_lengths[i].lengths[1], two_lengths[i].what);
+        lengths_are_larger(n, two_lengths[i].what);
+    }
+    for (size_t i = 0; i < 3; i++) {
+        split_many(moduli[i]);
+        lengths_are_larger(128, "128 terms and their beginnings");
+    }
+}
+
+/* 2 + 2 a_1 = 0 has 5 and 11 modulo 12, and 17 and 35 modulo 36. Modulo 18 it has 8 and 17, but modulo 2 the terms are 0 and a is 1, so it
+ * is 8. No number leaves 5 or 11 modulo 12 and 8 modulo 18. */
+static void coefficients_apart(void) {
+    const unsigned twice[] = {2, 2};
+    make_query(&q, 12, twice, 2), make_query(&other, 18, twice, 2), make_query(&want, 36, twice, 2);
+    merged_to_want("2,2 modulo 12 and modulo 18");
+    lend(&r, RECORD, 0x5A);
+    check(synthesize(&q, &r) == 0 && length_in(&r) == 1 && a_in(&r, 1) % 6 == 5, "2,2 modulo 12");
+    check(synthesize(&other, &r) == 0 && length_in(&r) == 1 && a_in(&r, 1) == 8, "2,2 modulo 18");
+    check(synthesize(&merged, &r) == 0 && length_in(&r) == 1 && a_in(&r, 1) % 18 == 17, "2,2 modulo 36");
+}
+
+/* What is merged is handed on like a query written by hand, to a further merge too. */
+static void merged_again(void) {
+    const unsigned x[] = {3, 1}, y[] = {2, 0}, z[] = {4, 2}, all[] = {59, 57};
+    static struct lent third, both, made;
+    make_query(&q, 4, x, 2), make_query(&other, 3, y, 2), make_query(&third, 5, z, 2), make_query(&want, 60, all, 2);
+    lend(&both, QUERY, 0x5A), lend(&merged, QUERY, 0x5A);
+    check(merge(&q, &other, &both) == 0 && merge(&both, &third, &merged) == 0, "4 and 3, then 5");
+    check(memcmp(start(&merged), start(&want), QUERY) == 0, "4 and 3, then 5: 59, 57 modulo 60");
+    lend(&both, QUERY, 0x5A), lend(&merged, QUERY, 0x5A);
+    check(merge(&other, &third, &both) == 0 && merge(&q, &both, &merged) == 0, "4, and 3 with 5");
+    check(memcmp(start(&merged), start(&want), QUERY) == 0, "4, and 3 with 5: 59, 57 modulo 60");
+    lend(&c, RECORD, 0), lend(&made, RECORD, 0x5A);
+    check(synthesize(&want, &c) == 0 && synthesize(&merged, &made) == 0, "records by hand and merged");
+    check(memcmp(start(&c), start(&made), RECORD) == 0, "the same record");
+    lend(&r, RECORD, 0x5A);
+    check(look_up(&merged, &c, &r) == 256, "found at place 0");
+}
+
 /* ---- NULL ---- */
 
 /* NULL with length 0 in each place of each call. */
@@ -1015,6 +1368,12 @@ static void nothing_lent(void) {
     refused(read_line(&line, &null), 5, &null, "read_line: NULL for the query");
     refused_at(read_line(&null, &q), 27, 0, &q, "read_line: NULL for the line is the empty one");
     refused(read_line(&null, &null), 5, &null, "read_line: NULL for both");
+    make_query(&q, 12, first_terms, 5), make_query(&other, 18, second_terms, 5), lend(&merged, QUERY, 0x5A);
+    refused(merge(&null, &other, &merged), 5, &merged, "merge: NULL for the first");
+    refused(merge(&q, &null, &merged), 5, &merged, "merge: NULL for the second");
+    refused(merge(&q, &other, &null), 5, &null, "merge: NULL for the query");
+    refused(merge(&null, &null, &merged), 5, &merged, "merge: NULL for the two queries");
+    refused(merge(&null, &null, &null), 5, &null, "merge: NULL for all three");
 }
 
 int main(void) {
@@ -1048,6 +1407,17 @@ int main(void) {
     queries_of_other_lengths();
     long_lines();
     handed_on();
+    queries_that_are_merged();
+    every_pair_of_terms();
+    many_terms();
+    terms_that_disagree();
+    multiples_above();
+    counts_that_differ();
+    order_in_merges();
+    merges_of_other_lengths();
+    merged_lengths();
+    coefficients_apart();
+    merged_again();
     nothing_lent();
     printf("host test: %d checks, %d failed\n", checks, failures);
     return failures != 0;

@@ -1,10 +1,12 @@
 /* Many calls through the C interface, with every buffer at the edge of a page that nobody may touch.
  *
  *   robustness --back, robustness --front
- *       replays the script on standard input and writes the same text as the second program for verify, generate, synthesize, look_up and
- *       read_line; the other operations are passed over. --back puts the end of each buffer at the forbidden page, --front its start;
- *       every other call hands over NULL for its empty buffers, and the others a number above 2^32 that ends like an editor's for a visitor.
- *       To standard error go how many records with an accession number were found for editors, and for visitors of such a number.
+ *       replays the script on standard input and writes the same text as the second program for verify, generate, synthesize, look_up,
+ *       read_line and merge; the other operations are passed over. --back puts the end of each buffer at the forbidden page, --front its
+ *       start; every other call hands over NULL for its empty buffers, and the same buffer for two equal queries that are merged, and the
+ *       others a number above 2^32 that ends like an editor's for a visitor.
+ *       To standard error go how many records with an accession number were found for editors, and for visitors of such a number, and how
+ *       many queries were merged with themselves in one buffer.
  *   robustness --expand SEED COPIES
  *       writes the script on standard input again, with so many altered copies behind each of these calls.
  *
@@ -19,14 +21,14 @@
 #include <sys/mman.h>
 #include <unistd.h>
 
-enum { VERIFY = 4, GENERATE = 5, SYNTHESIZE = 6, LOOK_UP = 7, FORGE = 8, READ_LINE = 10, PUSH_ALL = 11 };
+enum { VERIFY = 4, GENERATE = 5, SYNTHESIZE = 6, LOOK_UP = 7, FORGE = 8, READ_LINE = 10, PUSH_ALL = 11, MERGE = 12 };
 enum { HEADER = 16, WIDEST = 65535, PAINT = 0xC3, NEAR = 1024 };
 enum { QUERY = DIVERTHRONE_QUERY_BYTES, A = DIVERTHRONE_A_BYTES, B = DIVERTHRONE_B_BYTES, RECORD = DIVERTHRONE_RECORD_BYTES };
 enum { LENGTH_AT = DIVERTHRONE_LENGTH_PLACE, A_AT = DIVERTHRONE_A_PLACE, B_AT = DIVERTHRONE_B_PLACE, NUMBER_AT = DIVERTHRONE_NUMBER_PLACE };
 
-static const char *const names[] = {"open",       "push",    "register", "profile", "verify",   "generate",
-                                    "synthesize", "look_up", "forge",    "trace",   "read_line", "push_all"};
-static const size_t input_counts[] = {0, 0, 0, 0, 3, 2, 1, 2, 1, 0, 1, 1};
+static const char *const names[] = {"open",    "push",  "register", "profile",   "verify",   "generate", "synthesize",
+                                    "look_up", "forge", "trace",    "read_line", "push_all", "merge"};
+static const size_t input_counts[] = {0, 0, 0, 0, 3, 2, 1, 2, 1, 0, 1, 1, 2};
 
 /* One call of a script; the inputs come first among its buffers, a buffer lent for writing follows them. */
 struct call {
@@ -38,7 +40,7 @@ struct call {
 
 static size_t inputs(const struct call *c) { return input_counts[c->op]; }
 
-static int tested(const struct call *c) { return (c->op >= VERIFY && c->op <= LOOK_UP) || c->op == READ_LINE; }
+static int tested(const struct call *c) { return (c->op >= VERIFY && c->op <= LOOK_UP) || c->op == READ_LINE || c->op == MERGE; }
 
 static size_t buffers(const struct call *c) { return c->op == VERIFY ? 3 : inputs(c) + 1; }
 
@@ -74,7 +76,7 @@ static int read_call(struct call *c) {
     if (got == 0) return 0;
     if (got < HEADER) broken("cut short");
     snprintf(unknown, sizeof unknown, "unknown %u", (unsigned)h[0]);
-    if (h[0] > PUSH_ALL) broken(unknown);
+    if (h[0] > MERGE) broken(unknown);
     c->op = h[0], c->fill = h[1], c->number = number_at(h + 4, 4), c->l = number_at(h + 14, 2);
     for (size_t i = 0; i < 3; i++) c->len[i] = number_at(h + 8 + 2 * i, 2);
     if (c->op == FORGE && c->len[0] != QUERY) broken("bad forge");
@@ -155,6 +157,16 @@ static void count_found(const struct call *c, uint64_t reply) {
     visitors_found += asker(c) > UINT32_MAX;
 }
 
+static unsigned long lent_twice;
+
+/* Two equal queries may be one buffer. */
+static void lend_twice(const struct call *c, uint8_t *given[3]) {
+    if (c->op != MERGE || calls_made % 2 == 1) return;
+    if (c->len[0] != c->len[1] || memcmp(c->bytes[0], c->bytes[1], c->len[0]) != 0) return;
+    given[1] = given[0];
+    lent_twice += c->len[0] == QUERY && c->len[2] == QUERY;
+}
+
 static uint64_t enter(const struct call *c, uint8_t *const p[3]) {
     const size_t *n = c->len;
     switch (c->op) {
@@ -162,6 +174,7 @@ static uint64_t enter(const struct call *c, uint8_t *const p[3]) {
     case GENERATE: return diverthrone_generate(c->number, p[0], n[0], p[1], n[1], c->l, p[2], n[2]);
     case SYNTHESIZE: return diverthrone_synthesize(p[0], n[0], p[1], n[1]);
     case READ_LINE: return diverthrone_read_line(p[0], n[0], p[1], n[1]);
+    case MERGE: return diverthrone_merge(p[0], n[0], p[1], n[1], p[2], n[2]);
     default: return diverthrone_look_up(p[0], n[0], p[1], n[1], asker(c), p[2], n[2]);
     }
 }
@@ -172,11 +185,11 @@ static uint32_t hash(const uint8_t *s, size_t len) {
     return state;
 }
 
-/* With refusals 3, 27 and 28 the value is a place. A value where there should be none is written out, so that the comparison finds it. */
+/* With refusals 3, 27, 28 and 31 the value is a place. A value where there should be none is written out, so that the comparison finds it. */
 static void print_reply(unsigned op, uint64_t reply) {
     unsigned refusal = diverthrone_refusal(reply);
     unsigned long long value = diverthrone_value(reply);
-    if (refusal == 3 || refusal == 27 || refusal == 28)
+    if (refusal == 3 || refusal == 27 || refusal == 28 || refusal == 31)
         printf("%s refused %u at %llu", names[op], refusal, value);
     else if (refusal != 0 && value != 0)
         printf("%s refused %u with the value %llu", names[op], refusal, value);
@@ -206,6 +219,7 @@ static void make(const struct call *c) {
     lend(c, p);
     calls_made++;
     for (size_t i = 0; i < 3; i++) given[i] = c->len[i] == 0 && calls_made % 2 == 0 ? NULL : p[i];
+    lend_twice(c, given);
     uint64_t reply = enter(c, given);
     print_reply(c->op, reply);
     count_found(c, reply);
@@ -229,7 +243,7 @@ static int replay(struct call *c) {
     for (size_t i = 0; i < 3; i++) map_area(&areas[i]);
     while (read_call(c))
         if (tested(c)) make(c);
-    fprintf(stderr, "editors_found %lu\nvisitors_found %lu\n", editors_found, visitors_found);
+    fprintf(stderr, "editors_found %lu\nvisitors_found %lu\nlent_twice %lu\n", editors_found, visitors_found, lent_twice);
     return 0;
 }
 
@@ -529,6 +543,68 @@ static void longer(struct call *c) {
     if (below(3) == 0) splice(c, c->len[0], 0, piece());
 }
 
+/* The two queries of a merge, each in place of the other. */
+static void change_places(struct call *c) {
+    static uint8_t bytes[WIDEST + 1];
+    size_t len = c->len[0];
+    memcpy(bytes, c->bytes[0], len);
+    memcpy(c->bytes[0], c->bytes[1], c->len[1]), c->len[0] = c->len[1];
+    memcpy(c->bytes[1], bytes, len), c->len[1] = len;
+}
+
+/* The first query as both. */
+static void twice(struct call *c) { memcpy(c->bytes[1], c->bytes[0], c->len[0]), c->len[1] = c->len[0]; }
+
+/* A number's remainders in place of two terms, which then agree. */
+static void set_pair(struct call *c, size_t place, uint32_t number) {
+    for (size_t i = 0; i < 2; i++) {
+        uint32_t m = cell(c->bytes[i], 0);
+        if (m > 0) set_cell(c->bytes[i], 2 + place, number % m);
+    }
+}
+
+static int two_queries(const struct call *c) { return c->len[0] == QUERY && c->len[1] == QUERY; }
+
+static void one_pair(struct call *c) {
+    uint32_t n = terms_of(c);
+    if (n == 0 || !two_queries(c)) return;
+    size_t place = below(n);
+    set_pair(c, place, any());
+}
+
+/* The smaller of the two counts for both, or any; what is past it is cleared. */
+static void same_count(struct call *c) {
+    if (!two_queries(c)) return;
+    uint32_t one = cell(c->bytes[0], 1), two = cell(c->bytes[1], 1), n = below(4) ? one < two ? one : two : below(129);
+    for (size_t i = 0; i < 2; i++) {
+        set_cell(c->bytes[i], 1, n);
+        for (size_t at = 2 + n; at < QUERY / 2; at++) set_cell(c->bytes[i], at, 0);
+    }
+}
+
+/* The same numbers modulo u g and v g, with a multiple up to twice the limit; often some of the second's terms from a place on are any. */
+static void same_numbers(struct call *c) {
+    uint32_t u = 1 + below(64), v = 1 + below(64), g = 1 + below(1 + 4095 / (u * v));
+    if (!two_queries(c)) return;
+    same_count(c);
+    set_cell(c->bytes[0], 0, u * g), set_cell(c->bytes[1], 0, v * g);
+    uint32_t n = terms_of(c), apart = below(3) ? n : below(n + 1);
+    for (size_t at = 0; at < n; at++) {
+        set_pair(c, at, any());
+        if (at >= apart && below(2)) set_cell(c->bytes[1], 2 + at, below(v * g));
+    }
+}
+
+/* What is done to the query of other calls, to either of the two. */
+static void either(struct call *c) {
+    static void (*const ways[])(struct call *) = {one_term,     one_term,    wrong_terms, other_modulus,   other_modulus,
+                                                  wild_modulus, other_count, other_count, synthesize_query};
+    int second = below(2) == 1;
+    if (second) change_places(c);
+    ways[below(sizeof ways / sizeof *ways)](c);
+    if (second && c->op == MERGE) change_places(c);
+}
+
 /* One alteration in three is followed by another one, for the order of the refusals. */
 static void alter(struct call *c) {
     static void (*const ways[])(struct call *) = {one_byte,        one_cell,        one_cell,      one_term,      one_term,     wrong_terms,
@@ -536,9 +612,14 @@ static void alter(struct call *c) {
                                                   other_operation, other_operation, other_l,       other_lead,    other_number};
     static void (*const line_ways[])(struct call *) = {one_byte,   one_piece, one_piece, one_digit, one_digit,  one_number,
                                                        one_number, one_sign,  shorter,   longer,    one_length, other_fill};
+    static void (*const merge_ways[])(struct call *) = {one_byte,     one_cell,     one_length,   other_fill,   either, either,
+                                                        either,       either,       one_pair,     one_pair,     twice,  same_count,
+                                                        same_numbers, same_numbers, same_numbers, change_places};
     do {
         if (c->op == READ_LINE)
             line_ways[below(sizeof line_ways / sizeof *line_ways)](c);
+        else if (c->op == MERGE)
+            merge_ways[below(sizeof merge_ways / sizeof *merge_ways)](c);
         else
             ways[below(sizeof ways / sizeof *ways)](c);
     } while (below(3) == 0);

@@ -11,13 +11,13 @@
 #include <sys/mman.h>
 
 enum { TERMS = 128, STACK = 1 << 17, PAINT = 0xC3 };
-enum { NOTHING, VERIFY, GENERATE, SYNTHESIZE, MADE, FOUND, SHOWN, READ_LINE, REGISTER, TRACE, KINDS };
+enum { NOTHING, VERIFY, GENERATE, SYNTHESIZE, MADE, FOUND, SHOWN, READ_LINE, MERGE, GOLDEN, REGISTER, TRACE, KINDS };
 
 uint64_t timing_register(uint32_t m, uint32_t count, const uint32_t *terms, uint8_t *a, size_t a_len, uint8_t *b, size_t b_len);
 uint64_t timing_trace(uint32_t m, uint32_t count, const uint32_t *terms, uint8_t *a, size_t a_len, uint8_t *b, size_t b_len);
 
-static const char *const names[KINDS] = {"no call",       "verify", "generate",  "synthesize", "look_up made",
-                                         "look_up found", "editor", "read_line", "register",   "trace"};
+static const char *const names[KINDS] = {"no call", "verify",    "generate", "synthesize",   "look_up made", "look_up found",
+                                         "editor",  "read_line", "merge",    "merge golden", "register",     "trace"};
 static uint8_t *stack, *caller;
 static uint8_t query[DIVERTHRONE_QUERY_BYTES], record[DIVERTHRONE_RECORD_BYTES], shelf[DIVERTHRONE_RECORD_BYTES], cells[2 * TERMS];
 static uint8_t a_cells[DIVERTHRONE_A_BYTES], b_cells[DIVERTHRONE_B_BYTES];
@@ -25,6 +25,12 @@ static uint8_t line[1024], typed[DIVERTHRONE_QUERY_BYTES];
 static size_t line_len;
 static uint32_t modulus, terms[TERMS];
 static uint64_t state = 1;
+
+/* What the query is merged with, what the buffer holds after that and what it should hold, and the reply: in MERGE and in GOLDEN. */
+static struct merge {
+    uint8_t second[DIVERTHRONE_QUERY_BYTES], merged[DIVERTHRONE_QUERY_BYTES], want[DIVERTHRONE_QUERY_BYTES];
+    uint64_t reply;
+} merges[2];
 
 static uint32_t below(uint32_t n) {
     state = state * 6364136223846793005u + 1442695040888963407u;
@@ -47,16 +53,21 @@ static uint64_t enter(int kind) {
     case FOUND: return diverthrone_look_up(query, sizeof query, shelf, sizeof shelf, 0, record, sizeof record);
     case SHOWN: return diverthrone_look_up(query, sizeof query, shelf, sizeof shelf, DIVERTHRONE_EDITOR, record, sizeof record);
     case READ_LINE: return diverthrone_read_line(line, line_len, typed, sizeof typed);
+    case MERGE: return diverthrone_merge(query, sizeof query, merges[0].second, sizeof query, merges[0].merged, sizeof query);
+    case GOLDEN: return diverthrone_merge(query, sizeof query, merges[1].second, sizeof query, merges[1].merged, sizeof query);
     case REGISTER: return (uint32_t)timing_register(modulus, TERMS, terms, a_cells, sizeof a_cells, b_cells, sizeof b_cells) != l;
     case TRACE: return timing_trace(modulus, TERMS, terms, a_cells, sizeof a_cells, b_cells, sizeof b_cells) == 0;
     default: return 0;
     }
 }
 
+/* The reply to the next call. */
+static uint64_t due;
+
 static void *run(void *argument) {
     int *kind = argument;
     caller = __builtin_frame_address(0);
-    *kind = enter(*kind) == (*kind == FOUND || *kind == SHOWN ? 256u : 0u);
+    *kind = enter(*kind) == due;
     return NULL;
 }
 
@@ -70,6 +81,7 @@ static size_t depth(int kind) {
     pthread_t thread;
     pthread_attr_t attributes;
     int argument = kind;
+    due = kind == FOUND || kind == SHOWN ? 256 : kind == MERGE ? merges[0].reply : kind == GOLDEN ? merges[1].reply : 0;
     memset(stack, PAINT, STACK);
     need(pthread_attr_init(&attributes) == 0 && pthread_attr_setstack(&attributes, stack, STACK) == 0, "no stack for the thread");
     need(pthread_create(&thread, &attributes, run, &argument) == 0 && pthread_join(thread, NULL) == 0, "no thread");
@@ -105,18 +117,45 @@ static void type_line(void) {
     need(line_len < sizeof line, "the line is too long");
 }
 
+static uint32_t common_divisor(uint32_t x, uint32_t y) { return y == 0 ? x : common_divisor(y, x % y); }
+
+/* A query of the same numbers modulo k, and the query of the numbers themselves if the multiple is in the limits. */
+static void make_merge(struct merge *m, uint32_t k) {
+    uint32_t multiple = modulus / common_divisor(modulus, k) * k, times = multiple / modulus;
+    memset(m->merged, PAINT, sizeof query);
+    memset(m->want, PAINT, sizeof query);
+    m->reply = multiple > 4095 ? 30 : 0;
+    put(m->second, 0, k), put(m->second, 1, TERMS);
+    if (m->reply == 0) put(m->want, 0, multiple), put(m->want, 1, TERMS);
+    for (uint32_t i = 0; i < TERMS; i++) {
+        uint32_t number = terms[i] + modulus * (i % times);
+        put(m->second, 2 + i, number % k);
+        if (m->reply == 0) put(m->want, 2 + i, number);
+    }
+}
+
+/* With the largest modulus that keeps the product in the limits, or with the same one; and with the golden section of the modulus, for which
+ * Euclid's division has the most steps, whether the multiple is in the limits or not. */
+static void make_merges(void) {
+    uint32_t golden = (uint32_t)(modulus * 0.6180339887 + 0.5);
+    make_merge(&merges[0], modulus <= 2047 ? 4095 / modulus : modulus);
+    make_merge(&merges[1], golden < 2 ? 2 : golden);
+}
+
 /* The largest depths for one modulus go up into `most`. */
 static void measure(uint32_t m, size_t most[KINDS]) {
     modulus = m;
     for (int shape = 0; shape < 3; shape++) {
         make_query(shape);
         type_line();
+        make_merges();
         need(diverthrone_synthesize(query, sizeof query, shelf, sizeof shelf) == 0, "a record for the catalogue");
         for (int kind = 0; kind < KINDS; kind++) {
             size_t d = depth(kind);
             if (d > most[kind]) most[kind] = d;
         }
         need(memcmp(typed, query, sizeof query) == 0, "the query of the line");
+        for (int i = 0; i < 2; i++) need(memcmp(merges[i].merged, merges[i].want, sizeof query) == 0, "the merged query");
     }
 }
 

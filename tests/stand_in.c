@@ -6,6 +6,7 @@
 #undef diverthrone_verify
 #undef diverthrone_generate
 #undef diverthrone_read_line
+#undef diverthrone_merge
 
 const uint8_t *seen[3];
 size_t seen_len[3];
@@ -43,4 +44,10 @@ uint64_t diverthrone_generate(uint32_t modulus, const uint8_t *a, size_t a_len, 
 uint64_t diverthrone_read_line(const uint8_t *line, size_t line_len, uint8_t *query, size_t query_len) {
     see(0, line, line_len), see(1, query, query_len);
     return 5;
+}
+
+uint64_t diverthrone_merge(const uint8_t *first, size_t first_len, const uint8_t *second, size_t second_len, uint8_t *query,
+                           size_t query_len) {
+    see(0, first, first_len), see(1, second, second_len), see(2, query, query_len);
+    return 6;
 }
