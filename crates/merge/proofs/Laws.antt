@@ -191,11 +191,11 @@ module _ (s t : Sequence) (S : IsSound s) (T : IsSound t) where
     R′ : Rests s t g
     R′ = rests g eg
 
-    pub multiple-fits : s .modulus / g * (t .modulus / g) * g < 65536
-    multiple-fits = omega (arith, R′ .multiple, x .within)
+    pub multiple-fits : (s .modulus * (t .modulus / g) ≡ s .modulus / g * (t .modulus / g) * g) × (s .modulus * (t .modulus / g) < 65536)
+    multiple-fits = (R′ .product ∙ sym (R′ .multiple), omega (arith, R′ .product, x .within))
 
     pub rests-fit : s .modulus / g * (t .modulus / g) < 65536
-    rests-fit = omega (arith, multiple-fits, scaled (s .modulus / g * (t .modulus / g)))
+    rests-fit = omega (arith, multiple-fits .0, multiple-fits .1, scaled (s .modulus / g * (t .modulus / g)))
       where
         scaled : (k : ℕ) → k ≤ k * g
         scaled k = omega (arith, mul-le-mul-right k (R′ .g-pos))
@@ -210,12 +210,12 @@ module _ (s t : Sequence) (S : IsSound s) (T : IsSound t) where
     )
 
     pub merged-is :
-        queryOf (s .modulus / g * (t .modulus / g) * g)
-        (tabulate (s .count) (λ i. joined (s .modulus / g * (t .modulus / g) * g) (two (s .modulus / g * g) (at (s .terms) i) (t .modulus / g * g) (at (t .terms) i))))
+        queryOf (s .modulus * (t .modulus / g))
+        (tabulate (s .count) (λ i. joined (s .modulus * (t .modulus / g)) (two (s .modulus / g * g) (at (s .terms) i) (t .modulus / g * g) (at (t .terms) i))))
         ≡ mergedQuery s t
     unfolding mergedQuery
     merged-is =
-        λ j. queryOf (R′ .multiple j) (tabulate (s .count) (λ i. joined (R′ .multiple j) (two (R′ .first j) (at (s .terms) i) (R′ .second j) (at (t .terms) i))))
+        λ j. queryOf (R′ .product j) (tabulate (s .count) (λ i. joined (R′ .product j) (two (R′ .first j) (at (s .terms) i) (R′ .second j) (at (t .terms) i))))
 
 -- ---- the loop that writes them
 

@@ -61,8 +61,9 @@ fn compare(s: Sequence, t: Sequence, g: u32) -> Outcome
     first_refusal(differ, above, i < n, i)
 }
 
-// Two moduli mu g and nu g, mu and nu coprime, and their meeter: taken once for all terms.
+// Two moduli mu g and nu g, mu and nu coprime, their least common multiple and their meeter: taken once for all terms.
 struct Moduli {
+    multiple: u32,
     mu: u32,
     nu: u32,
     g: u32,
@@ -71,9 +72,9 @@ struct Moduli {
 
 // The merged term at place i, from the terms x and y there; 0 past the n terms.
 fn merged_term(x: u32, y: u32, m: Moduli, i: usize, n: usize) -> u32
-    requires { ⌜ (m .mu * m .nu * m .g < 65536) × Coprime (m .mu) (m .nu) × (m .meeter ≡ inverse (m .nu) (m .mu)) ⌝ }
+    requires { ⌜ (m .multiple ≡ m .mu * m .nu * m .g) × (m .multiple < 65536) × Coprime (m .mu) (m .nu) × (m .meeter ≡ inverse (m .nu) (m .mu)) ⌝ }
     requires { ⌜ (i < n → (x < m .mu * m .g) × (y < m .nu * m .g) × (x % m .g ≡ y % m .g)) ⌝ }
-    ensures { λ r. ⌜ r ≡ pick (ltb i n) (joined (m .mu * m .nu * m .g) (two (m .mu * m .g) x (m .nu * m .g) y)) 0 ⌝ }
+    ensures { λ r. ⌜ r ≡ pick (ltb i n) (joined (m .multiple) (two (m .mu * m .g) x (m .nu * m .g) y)) 0 ⌝ }
 {
     if i < n {
         return residue::meet(x, y, m.mu, m.nu, m.g, m.meeter);
@@ -83,13 +84,13 @@ fn merged_term(x: u32, y: u32, m: Moduli, i: usize, n: usize) -> u32
 
 // Writes the query of the merged terms.
 fn write_query(xs: &[u32; TERMS], ys: &[u32; TERMS], n: u32, m: Moduli, query: &mut [u8])
-    requires { ⌜ (length (now xs) ≡ maxTerms) × (length (now ys) ≡ maxTerms) × (n ≤ maxTerms) × (length (now query) ≡ queryBytes) × (0 < m .g) ⌝ }
-    requires { ⌜ (m .mu * m .nu * m .g < 65536) × Coprime (m .mu) (m .nu) × (m .meeter ≡ inverse (m .nu) (m .mu)) ⌝ }
+    requires { ⌜ (length (now xs) ≡ maxTerms) × (length (now ys) ≡ maxTerms) × (n ≤ maxTerms) × (length (now query) ≡ queryBytes) ⌝ }
+    requires { ⌜ (m .multiple ≡ m .mu * m .nu * m .g) × (m .multiple < 65536) × Coprime (m .mu) (m .nu) × (m .meeter ≡ inverse (m .nu) (m .mu)) ⌝ }
     requires { ⌜ ((i : ℕ) → i < n → (at (now xs) i < m .mu * m .g) × (at (now ys) i < m .nu * m .g) × (at (now xs) i % m .g ≡ at (now ys) i % m .g)) ⌝ }
-    ensures { λ _. ⌜ now (query .exit) ≡ queryOf (m .mu * m .nu * m .g)
-        (tabulate n (λ i. joined (m .mu * m .nu * m .g) (two (m .mu * m .g) (at (now (xs .entry)) i) (m .nu * m .g) (at (now (ys .entry)) i)))) ⌝ }
+    ensures { λ _. ⌜ now (query .exit) ≡ queryOf (m .multiple)
+        (tabulate n (λ i. joined (m .multiple) (two (m .mu * m .g) (at (now (xs .entry)) i) (m .nu * m .g) (at (now (ys .entry)) i)))) ⌝ }
 {
-    cells::put(query, 0, m.mu * m.nu * m.g);
+    cells::put(query, 0, m.multiple);
     cells::put(query, 1, n);
     let mut i: usize = 0;
     while i < TERMS {
@@ -106,8 +107,10 @@ fn write_merged(s: Sequence, t: Sequence, g: u32, query: &mut [u8])
 {
     let mu = s.modulus / g;
     let nu = t.modulus / g;
+    let multiple = s.modulus * nu;
     let meeter = residue::meeter(mu, nu);
     let m = Moduli {
+        multiple: multiple,
         mu: mu,
         nu: nu,
         g: g,

@@ -20,7 +20,7 @@ mul-above c = omega (arith, product-fits (c .args .t1 .modulus) (c .args .t2 .mo
 first-apart-requires : tie.Need-first-apart-requires
 first-apart-requires c κs =
     let z = c .before .before .before .before in
-    (z .pre .0 .count, left-by z .g-pos, search needs, search needs)
+    (z .pre .0 .count, omega (arith, left-by z .g-pos, z .pre .0 .least), search needs, search needs)
 
 first-refusal-requires : tie.Need-first-refusal-requires
 first-refusal-requires c κs = search needs

@@ -5,7 +5,7 @@ use native.Mathlib.Omega.{arith}
 use lib.ListN.{length}
 use borrow.Author.Needs.{needs}
 use Rattle.sequence.specs.Limits.{maxTerms}
-use Rattle.merge.proofs.Laws.{Mergeable, mergeable, Rests, rests, multiple-fits, rests-fit, terms-fit, merged-is}
+use Rattle.merge.proofs.Laws.{product-fits, Mergeable, mergeable, Rests, rests, multiple-fits, rests-fit, terms-fit, merged-is}
 use Rattle.merge.proofs.write_merged.Statement.{statement}
 use Rattle.merge.proofs.write_merged.Tie as tie
 
@@ -22,6 +22,11 @@ div-mu c = omega (arith, left-by (c .before) .g-pos)
 div-nu : tie.Need-div-nu
 div-nu c = omega (arith, left-by (c .before) .g-pos)
 
+mul-multiple : tie.Need-mul-multiple
+mul-multiple c =
+    let z = c .before in
+    omega (arith, product-fits (z .args .t1 .modulus) (z .args .t2 .modulus) (z .args .g) (z .pre .0 .most) (z .pre .1 .most))
+
 meeter-requires : tie.Need-meeter-requires
 meeter-requires c κs =
     let z = c .before in
@@ -37,10 +42,11 @@ write-query-requires c κs =
     let m = c .before .before .before .before .before in
     let z = m .before .before in
     let r = left-by z in
-    let l = lengths (c .before .before) in (
-      (l .0, l .1, z .pre .0 .count, z .pre .4, r .g-pos),
+    let l = lengths (c .before .before) in
+    let multiple = multiple-fits (z .args .t1) (z .args .t2) (z .pre .0) (z .pre .1) (z .args .g) (z .pre .2) (can-merge z) in (
+      (l .0, l .1, z .pre .0 .count, z .pre .4),
       (
-        (multiple-fits (z .args .t1) (z .args .t2) (z .pre .0) (z .pre .1) (z .args .g) (z .pre .2) (can-merge z), r .coprime, m .meeter .ensures),
+        (multiple .0, multiple .1, r .coprime, m .meeter .ensures),
         terms-fit (z .args .t1) (z .args .t2) (z .pre .0) (z .pre .1) (z .args .g) (z .pre .2) (can-merge z),
       ),
     )
@@ -55,4 +61,4 @@ returns c =
     w .write-query .ensures ∙ merged-is (z .args .t1) (z .args .t2) (z .pre .0) (z .pre .1) (z .args .g) (z .pre .2) (can-merge z)
 
 pub write-merged-spec : {M : Type 1} → statement M
-write-merged-spec = tie.close (tie.spec div-mu div-nu meeter-requires write-query-requires same-length returns)
+write-merged-spec = tie.close (tie.spec div-mu div-nu mul-multiple meeter-requires write-query-requires same-length returns)

@@ -8,7 +8,6 @@ use borrow.Author.Needs.{needs}
 use Rattle.lists.specs.Table.{at, tabulate}
 use Rattle.lists.proofs.Table.{length-tabulate}
 use Rattle.residue.specs.Remainders.{joined, two}
-use Rattle.residue.proofs.Common.{met-parts}
 use Rattle.sequence.specs.Limits.{maxTerms}
 use Rattle.sequence.proofs.Writing.{Writing, writing-start, writing-more, writing-end, writing-size}
 use Rattle.merge.specs.declared.Moduli.{Moduli}
@@ -18,21 +17,13 @@ use Rattle.merge.proofs.write_query.Tie as tie
 
 -- the merged terms
 abbrev terms : Moduli → List ℕ → List ℕ → ℕ → ℕ
-terms m xs ys i = joined (m .mu * m .nu * m .g) (two (m .mu * m .g) (at xs i) (m .nu * m .g) (at ys i))
+terms m xs ys i = joined (m .multiple) (two (m .mu * m .g) (at xs i) (m .nu * m .g) (at ys i))
 
 abbrev Inv-loop : tie.InvT-loop
-Inv-loop xs ys n m query₀ i₀ query i = Writing (m .mu * m .nu * m .g) n (at (tabulate n (terms m xs ys))) query i
+Inv-loop xs ys n m query₀ i₀ query i = Writing (m .multiple) n (at (tabulate n (terms m xs ys))) query i
 
 abbrev μ-loop : tie.MeasureT-loop
 μ-loop xs ys n m query₀ i₀ query i = maxTerms - i
-
-mul-put : tie.Need-mul-put Inv-loop μ-loop
-mul-put c =
-    let z = c .before .before .before in
-    omega (arith, met-parts (z .args .m .mu) (z .args .m .nu) (z .args .m .g) (z .pre .0 .4) (z .pre .1 .0 .0))
-
-mul-put-2 : tie.Need-mul-put-2 Inv-loop μ-loop
-mul-put-2 c = search needs
 
 put-requires : tie.Need-put-requires Inv-loop μ-loop
 put-requires c κs = search needs
@@ -44,7 +35,7 @@ loop-holds : tie.Need-loop-holds Inv-loop μ-loop
 loop-holds c =
     let put2 = c .before .before in
     let put = put2 .before .before .before .before in
-    let z = put .before .before .before .before .before in
+    let z = put .before .before .before in
     writing-start (z .args .query .now) _ _ (z .pre .0 .3) (put .put .ensures) (put2 .put2 .ensures)
 
 mul-merged-term : tie.Need-mul-merged-term Inv-loop μ-loop
@@ -62,7 +53,7 @@ element-copy-out-merged-term-2 c = search needs
 merged-term-requires : tie.Need-merged-term-requires Inv-loop μ-loop
 merged-term-requires c κs =
     let l = c .before .before .before in
-    let z = l .before .before .before .before .before .before .before .before .before .before .before .before in
+    let z = l .before .before .before .before .before .before .before .before .before .before in
     (z .pre .1 .0, λ h. z .pre .1 .1 (l .loop .i) h)
 
 add-put : tie.Need-add-put Inv-loop μ-loop
@@ -82,21 +73,21 @@ loop-less c = search needs
 loop-again : tie.Need-loop-again Inv-loop μ-loop
 loop-again c =
     let l = c .before .before .before .before .before .before .before .before in
-    let a = l .before .before .before .before .before .before .before .before .before .before .before .before .args in
+    let a = l .before .before .before .before .before .before .before .before .before .before .args in
     let h : l .loop .i < maxTerms = omega arith in
     writing-more _ _ (l .loop .inv) h (c .before .before .before .before .merged-term .ensures ∙ term-at (a .n) (terms (a .m) (a .xs .now) (a .ys .now)) (l .loop .i)) (c .before .before .put3 .ensures)
 
 same-length : tie.Need-same-length Inv-loop μ-loop
 same-length c =
     let l = c .before in
-    let z = l .before .before .before .before .before .before .before .before .before .before .before .before in
+    let z = l .before .before .before .before .before .before .before .before .before .before in
     writing-size (l .loop .inv) ∙ sym (z .pre .0 .3)
 
 returns : tie.Need-returns Inv-loop μ-loop
 returns c =
     let l = c .before in
-    let a = l .before .before .before .before .before .before .before .before .before .before .before .before .args in
-    written-query (a .m .mu * a .m .nu * a .m .g) (a .n) (terms (a .m) (a .xs .now) (a .ys .now)) (writing-end (l .loop .inv) (c .loop-test .left))
+    let a = l .before .before .before .before .before .before .before .before .before .before .args in
+    written-query (a .m .multiple) (a .n) (terms (a .m) (a .xs .now) (a .ys .now)) (writing-end (l .loop .inv) (c .loop-test .left))
 
 pub write-query-spec : {M : Type 1} → statement M
 write-query-spec =
@@ -104,8 +95,6 @@ write-query-spec =
     (tie.spec
     Inv-loop
     μ-loop
-    mul-put
-    mul-put-2
     put-requires
     put-requires-2
     loop-holds
