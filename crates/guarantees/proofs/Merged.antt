@@ -31,7 +31,7 @@ use Rattle.guarantees.specs.Calls.{afterAll}
 use Rattle.diverthrone.specs.Codes.{codeOf}
 use Rattle.guarantees.specs.Cases.{zeros, reply}
 use Rattle.guarantees.specs.Merging as M
-use Rattle.guarantees.specs.Merging.{Compared, TwoQueries}
+use Rattle.guarantees.specs.Merging.{Comparable, TwoQueries}
 use Rattle.guarantees.specs.Merged.{answerTo, MergedRows}
 use Rattle.guarantees.proofs.Refusals.{passed-clean}
 use Rattle.guarantees.proofs.Merging.{divisor, multiple, two-queries}
@@ -39,7 +39,7 @@ use Rattle.guarantees.proofs.Merging.{divisor, multiple, two-queries}
 -- ---- multiples that are too large to search for
 
 module _ (x y : List ℕ) (fx : checkOf x ≡ Done) (fy : checkOf y ≡ Done) (counts : cellAt x 1 ≡ cellAt y 1) where
-  held : Compared x y (zeros queryBytes)
+  held : Comparable x y (zeros queryBytes)
   held = record { first = passed-clean x fx; second = passed-clean y fy; buffer = length-replicate {A = ℕ} queryBytes 0 }
 
   above : maxModulus < commonMultiple (cellAt x 0) (cellAt y 0) → answerTo x y ≡ refused 30

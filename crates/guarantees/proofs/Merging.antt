@@ -44,7 +44,7 @@ use Rattle.guarantees.specs.Calls.{Call, push, afterAll, taken}
 use Rattle.guarantees.specs.Claims.{ShownBy, Demand3, MadeServedReported, termsOf}
 use Rattle.guarantees.specs.Refusals.{Clean}
 use Rattle.guarantees.specs.Merging as M
-use Rattle.guarantees.specs.Merging.{IsDivisor, IsMultiple, LeavesBoth, Compared, Reason, first-buffer, second-buffer, query-buffer, first-own, second-own, profileCell, lengthMade, Takes, IsMerged, mergedIn, Merges, TwoQueries}
+use Rattle.guarantees.specs.Merging.{IsDivisor, IsMultiple, LeavesBoth, Comparable, Reason, first-buffer, second-buffer, query-buffer, first-own, second-own, profileCell, lengthMade, Takes, IsMerged, mergedIn, Merges, TwoQueries}
 use Rattle.guarantees.proofs.Demand.{demand}
 use Rattle.guarantees.proofs.Records.{least, most, terms-long, terms-pushed, empty-made, same}
 use Rattle.guarantees.proofs.Refusals.{passed-clean, clean-passed}
@@ -191,7 +191,7 @@ module _ (x y : List ℕ) (fx : checkOf x ≡ Done) (fy : checkOf y ≡ Done) wh
   unfolding sequenceOf
   reason-of query size o = go
     where
-      held : Compared x y query
+      held : Comparable x y query
       held = record { first = passed-clean x fx; second = passed-clean y fy; buffer = size }
 
       go : Comparison s t o → Reason x y query o
@@ -325,7 +325,7 @@ module _ (x y query : List ℕ) where
   unfolding mergeOf
   checks hx hy hq = rw (eq-eqb (length x) queryBytes hx, eq-eqb (length y) queryBytes hy, eq-eqb (length query) queryBytes hq) refl
 
-  held : Compared x y query → mergeOf x y query ≡ comparedOf (sequenceOf x) (sequenceOf y)
+  held : Comparable x y query → mergeOf x y query ≡ comparedOf (sequenceOf x) (sequenceOf y)
   held c =
       checks (c .first .readable .size) (c .second .readable .size) (c .buffer)
       ∙ ap₂ (λ (p q : Outcome). andThen p (andThen q (comparedOf (sequenceOf x) (sequenceOf y)))) (clean-passed x (c .first)) (clean-passed y (c .second))
@@ -375,10 +375,10 @@ module _ (x y query : List ℕ) where
       fy = clean-passed y (c .second)
 
   -- a reply that is no refusal of a buffer or of a query comes of the comparison
-  compared-when : (o : Outcome) → mergeOf x y query ≡ o → ((r : Refusal) → refusal r .number ≤ 5 → o ≡ Refused r → ⊥) → Compared x y query
+  compared-when : (o : Outcome) → mergeOf x y query ≡ o → ((r : Refusal) → refusal r .number ≤ 5 → o ≡ Refused r → ⊥) → Comparable x y query
   compared-when o told late = go reason-told
     where
-      go : Reason x y query (mergeOf x y query) → Compared x y query
+      go : Reason x y query (mergeOf x y query) → Comparable x y query
       go (first-buffer h e) = absurd (late R.Buffer (omega arith) (sym told ∙ e))
       go (second-buffer h e) = absurd (late R.Buffer (omega arith) (sym told ∙ e))
       go (query-buffer h e) = absurd (late R.Buffer (omega arith) (sym told ∙ e))
@@ -391,7 +391,7 @@ module _ (x y query : List ℕ) where
 
   -- ---- 31
 
-  module _ (c : Compared x y query) where
+  module _ (c : Comparable x y query) where
     px : checkOf x ≡ Done
     px = clean-passed x (c .first)
 
@@ -414,7 +414,7 @@ module _ (x y query : List ℕ) where
         })
 
   module _ (i : ℕ) (told : mergeOf x y query ≡ Refused (R.TermsDisagree i)) where
-    c : Compared x y query
+    c : Comparable x y query
     c = compared-when (Refused (R.TermsDisagree i)) told (λ r h e. let n = same-number e in omega (arith, n))
 
     fx : checkOf x ≡ Done
@@ -454,7 +454,7 @@ module _ (x y query : List ℕ) where
       subst (λ (o : Outcome). IsMerged x y (filled o (mergedQuery (sequenceOf x) (sequenceOf y)) query)) (sym told)
       (is-merged x y (clean-passed x (c .first)) (clean-passed y (c .second)) (mergeable (sequenceOf x) (sequenceOf y) (sym (held c) ∙ told)))
     where
-      c : Compared x y query
+      c : Comparable x y query
       c = compared-when Done told (λ r h e. refused-done (sym e))
 
   kept-told : (mergeOf x y query ≡ Done → ⊥) → mergedIn x y query ≡ query

@@ -24,9 +24,9 @@ queryTo x y = mergedIn x y (zeros queryBytes)
 abbrev pub codeTo : List ℕ → List ℕ → ℕ
 codeTo x y = codeOf (answerTo x y)
 
--- the cells of a register of a query's terms: what Cases shows of them
-abbrev pub firstOfA : ℕ → List ℕ → List ℕ
-firstOfA m ts = reply m ts 1 .a
+-- a_0 and a_1 of the register that is reported for some terms
+abbrev pub twoOfA : ℕ → List ℕ → List ℕ
+twoOfA m ts = reply m ts 1 .a
 
 pub record MergedRows : Type 0 where
   -- 12 and 18
@@ -35,11 +35,11 @@ pub record MergedRows : Type 0 where
   pub turned-query : queryTo (queryOf 18 (13 ∷ 2 ∷ 17 ∷ [])) (queryOf 12 (7 ∷ 2 ∷ 11 ∷ [])) ≡ queryOf 36 (31 ∷ 2 ∷ 35 ∷ [])
   -- terms that agree modulo 6, and not modulo 12
   pub agree-6-query : queryTo (queryOf 12 (7 ∷ [])) (queryOf 18 (1 ∷ [])) ≡ queryOf 36 (19 ∷ [])
-  -- 2, 2 modulo 12 and modulo 18: no number modulo 36 leaves both coefficients, and 2, 2 modulo 36 has a register as short
-  pub twelve : firstOfA 12 (2 ∷ 2 ∷ []) ≡ 1 ∷ 11 ∷ []
-  pub eighteen : firstOfA 18 (2 ∷ 2 ∷ []) ≡ 1 ∷ 8 ∷ []
+  -- 2, 2 modulo 12 and modulo 18: no number below 36 leaves both coefficients, 11 and 8; 2, 2 modulo 36 has a register as short
+  pub twelve : twoOfA 12 (2 ∷ 2 ∷ []) ≡ 1 ∷ 11 ∷ []
+  pub eighteen : twoOfA 18 (2 ∷ 2 ∷ []) ≡ 1 ∷ 8 ∷ []
   pub no-coefficient : joined 36 (two 12 11 18 8) ≡ 36
-  pub thirty-six : firstOfA 36 (2 ∷ 2 ∷ []) ≡ 1 ∷ 35 ∷ []
+  pub thirty-six : twoOfA 36 (2 ∷ 2 ∷ []) ≡ 1 ∷ 35 ∷ []
   pub thirty-six-query : queryTo (queryOf 12 (2 ∷ 2 ∷ [])) (queryOf 18 (2 ∷ 2 ∷ [])) ≡ queryOf 36 (2 ∷ 2 ∷ [])
   -- coprime, equal, one that divides the other
   pub coprime-query : queryTo (queryOf 4 (1 ∷ 2 ∷ [])) (queryOf 9 (8 ∷ 3 ∷ [])) ≡ queryOf 36 (17 ∷ 30 ∷ [])

@@ -47,8 +47,8 @@ AgreeAt x y g i = cellAt x (2 + i) % g ≡ cellAt y (2 + i) % g
 
 -- ---- when each refusal is given
 
--- neither 5 nor a refusal of its own keeps the queries from being held against each other
-pub record Compared (x y query : List ℕ) : Type 0 where
+-- neither 5 nor a refusal of their own keeps the queries from being held against each other
+pub record Comparable (x y query : List ℕ) : Type 0 where
   pub first : Clean x
   pub second : Clean y
   pub buffer : length query ≡ queryBytes
@@ -63,13 +63,13 @@ pub data Reason (x y query : List ℕ) (o : Outcome) : Type 0 where
   first-own : (r : Refusal) → length x ≡ queryBytes → length y ≡ queryBytes → length query ≡ queryBytes → checkOf x ≡ Refused r → o ≡ Refused r → Reason x y query o
   second-own : (r : Refusal) → Clean x → length y ≡ queryBytes → length query ≡ queryBytes → checkOf y ≡ Refused r → o ≡ Refused r → Reason x y query o
   -- 29, 30, 31
-  counts : Compared x y query → (cellAt x 1 ≡ cellAt y 1 → ⊥) → o ≡ Refused R.CountsDiffer → Reason x y query o
-  multiple : (m : ℕ) → Compared x y query → cellAt x 1 ≡ cellAt y 1 → IsMultiple (cellAt x 0) (cellAt y 0) m → maxModulus < m → o ≡ Refused R.MultipleAbove → Reason x y query o
+  counts : Comparable x y query → (cellAt x 1 ≡ cellAt y 1 → ⊥) → o ≡ Refused R.CountsDiffer → Reason x y query o
+  multiple : (m : ℕ) → Comparable x y query → cellAt x 1 ≡ cellAt y 1 → IsMultiple (cellAt x 0) (cellAt y 0) m → maxModulus < m → o ≡ Refused R.MultipleAbove → Reason x y query o
   terms :
-      (m g i : ℕ) → Compared x y query → cellAt x 1 ≡ cellAt y 1 → IsMultiple (cellAt x 0) (cellAt y 0) m → m ≤ maxModulus → IsDivisor (cellAt x 0) (cellAt y 0) g
+      (m g i : ℕ) → Comparable x y query → cellAt x 1 ≡ cellAt y 1 → IsMultiple (cellAt x 0) (cellAt y 0) m → m ≤ maxModulus → IsDivisor (cellAt x 0) (cellAt y 0) g
       → i < cellAt x 1 → (AgreeAt x y g i → ⊥) → ((j : ℕ) → j < i → AgreeAt x y g j) → o ≡ Refused (R.TermsDisagree i) → Reason x y query o
   done :
-      (m g : ℕ) → Compared x y query → cellAt x 1 ≡ cellAt y 1 → IsMultiple (cellAt x 0) (cellAt y 0) m → m ≤ maxModulus → IsDivisor (cellAt x 0) (cellAt y 0) g
+      (m g : ℕ) → Comparable x y query → cellAt x 1 ≡ cellAt y 1 → IsMultiple (cellAt x 0) (cellAt y 0) m → m ≤ maxModulus → IsDivisor (cellAt x 0) (cellAt y 0) g
       → ((j : ℕ) → j < cellAt x 1 → AgreeAt x y g j) → o ≡ Done → Reason x y query o
 
 -- ---- the merged query
@@ -125,7 +125,7 @@ pub record Merges (x y query : List ℕ) : Type 0 where
   pub apart-none : (i : ℕ) → mergeOf x y query ≡ Refused (R.TermsDisagree i) → (v : ℕ) → LeavesBoth x y i v → ⊥
   pub apart-first : (i : ℕ) → mergeOf x y query ≡ Refused (R.TermsDisagree i) → (j : ℕ) → j < i → (v : ℕ) × LeavesBoth x y j v
   pub none-apart :
-      (m i : ℕ) → Compared x y query → cellAt x 1 ≡ cellAt y 1 → IsMultiple (cellAt x 0) (cellAt y 0) m → m ≤ maxModulus → i < cellAt x 1
+      (m i : ℕ) → Comparable x y query → cellAt x 1 ≡ cellAt y 1 → IsMultiple (cellAt x 0) (cellAt y 0) m → m ≤ maxModulus → i < cellAt x 1
       → ((v : ℕ) → LeavesBoth x y i v → ⊥) → ((j : ℕ) → j < i → (v : ℕ) × LeavesBoth x y j v) → mergeOf x y query ≡ Refused (R.TermsDisagree i)
   -- by number it is the answer that the calls promise, for C too
   pub by-number : outcomeAnswer (mergeOf x y query) ≡ mergeAnswer x y query
