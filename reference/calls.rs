@@ -1,11 +1,12 @@
-//! The calls of document 01, and of requests A1 to A3, A5, A7 and A8 in 02, on plain
+//! The calls of document 01, and of requests A1 to A3, A5 and A7 to A9 in 02, on plain
 //! values and byte buffers.
 //!
 //! "Order where several apply: 5, 21, 1, 2, 22, 3, 4, 6, 23, 24. Each call gives
 //! only those that concern what it is handed." 25 comes right before 6, 26 right
 //! after it, and only the 5 of a sheet comes after 21. 27 and 28 come after 5 and before
-//! 1, the one with the lower place. A refused call leaves every lent byte as it was, and
-//! a reading too, but for the terms that a column took before its refusal.
+//! 1, the one with the lower place. Of two slips the first has all of 1 to 4 before the
+//! second, and 29, 30, 31 follow. A refused call leaves every lent byte as it was, and a
+//! reading too, but for the terms that a column took before its refusal.
 
 use crate::join::{
     histories, profile as profile_of, register as register_of, register_after, sheet as sheet_of,
@@ -13,6 +14,7 @@ use crate::join::{
 };
 use crate::limits::*;
 use crate::lines;
+use crate::merge::{common_multiple, joined_term};
 use crate::only::{only, Only};
 use crate::refusals::Refusal;
 use crate::steps::{product_coefficient, StepRecord};
@@ -291,6 +293,27 @@ pub fn read_line(line: &[u8], slip: &mut [u8]) -> Result<(), Refusal> {
     demand(terms.len() <= TERMS_LIMIT, Refusal::TooMany)?;
     let remainders: Vec<u64> = terms.iter().map(|term| term.rem_euclid(modulus) as u64).collect();
     slip.copy_from_slice(&slip_of(m, &remainders));
+    Ok(())
+}
+
+// ---- two slips ----
+
+/// Joins two slips "to one slip modulo the least common multiple": 5 (all three), the first
+/// slip's own 1 to 4, the second slip's own, 29, 30, 31. 02, A9: "They follow 5 for all the
+/// buffers and then each slip's own checks, first slip first, in this order."
+pub fn merge(first: &[u8], second: &[u8], slip: &mut [u8]) -> Result<(), Refusal> {
+    demand([first.len(), second.len(), slip.len()] == [SLIP_BYTES; 3], Refusal::Buffer)?;
+    let first = check_slip(first)?;
+    let second = check_slip(second)?;
+    demand(first.terms.len() == second.terms.len(), Refusal::Counts)?;
+    let multiple = common_multiple(first.modulus, second.modulus);
+    demand(multiple <= MODULUS_LIMIT, Refusal::Multiple)?;
+    let mut joined = Vec::new();
+    for (place, (&s, &t)) in first.terms.iter().zip(&second.terms).enumerate() {
+        let term = joined_term((s, first.modulus), (t, second.modulus));
+        joined.push(term.ok_or(Refusal::Disagreement(place))?);
+    }
+    slip.copy_from_slice(&slip_of(multiple, &joined));
     Ok(())
 }
 

@@ -1,6 +1,7 @@
 //! What the random slips, scripts and typed lines meet: every refusal of every call, the
-//! places, the kinds of bad claims, of lines, of columns, of servings, of answers of A8, and
-//! how the orders stand to the starts. The seeds are those that tests/expectations.sh uses.
+//! places, the kinds of bad claims, of lines, of columns, of servings, of answers of A8, of
+//! merges, and how the orders stand to the starts. The seeds are those that
+//! tests/expectations.sh uses.
 
 use crate::ask::{self, ask, LINE_LIMIT};
 use crate::calls::*;
@@ -11,6 +12,8 @@ use crate::faults::{faults, offending, Fault};
 use crate::limits::*;
 use crate::linecalls::linecalls;
 use crate::listing::listing;
+use crate::merges;
+use crate::mergesmet;
 use crate::onlymet;
 use crate::scenarios;
 use crate::script::{line, reading_bytes, replay, Call, Operation};
@@ -25,7 +28,7 @@ use std::collections::{BTreeMap, BTreeSet};
 const LEAST: usize = 3;
 
 /// The calls and the refusals that each has.
-const REFUSALS: [(&str, &[u32]); 13] = [
+const REFUSALS: [(&str, &[u32]); 14] = [
     ("open", &[1]),
     ("push", &[21, 22, 3]),
     ("register", &[5, 21]),
@@ -37,6 +40,7 @@ const REFUSALS: [(&str, &[u32]); 13] = [
     ("trace", &[5, 21]),
     ("read_line", &[5, 27, 28, 1, 2]),
     ("push_all", &[5, 21, 22, 3]),
+    ("merge", &[5, 1, 2, 3, 4, 29, 30, 31]),
     // A piece that is too short is put after the slips.
     ("listing", &[1, 2, 3, 4]),
     ("ask", &[5, 27, 28, 1, 2]),
@@ -56,6 +60,7 @@ pub fn met(group: &mut Group) {
         scenarios::candidates(12, 1000),
         catalogues(14, 300),
         linecalls(15, 2000),
+        merges::merges(16, 1500),
     ]
     .concat();
     let slips = sequences::slips(21, 2400);
@@ -73,8 +78,10 @@ pub fn met(group: &mut Group) {
     longest_met(group, &input);
     columns_met(group, &script);
     servings::met(group, &script);
+    mergesmet::met(group, &script);
     // Those by hand have each kind; without them it takes more.
     servings::met(group, &rounds(14, 2000));
+    mergesmet::met(group, &merges::rounds(16, 40000));
 }
 
 /// The text with the name of its command before each line.
@@ -86,11 +93,14 @@ pub fn often(group: &mut Group, times: usize, words: impl Fn() -> String) {
     group.check(times >= LEAST, || format!("{}: {times} times", words()));
 }
 
-/// Each call meets all its refusals and no other. Each 3, 27 and 28 and nothing else has a
-/// place, and every call that gives 3 has the least, the largest and others.
+/// How often each call gave 3 or 31 at each place.
+type Places<'a> = Tally<(&'a str, u32, usize)>;
+
+/// Each call meets all its refusals and no other. Each 3, 27, 28 and 31 and nothing else has a
+/// place.
 fn refusals_met(group: &mut Group, text: &str) {
     let mut tally = Tally::new();
-    let mut places = Tally::new();
+    let mut places = Places::new();
     for line in text.lines() {
         let words: Vec<&str> = line.split(' ').collect();
         // A column tells first how many were taken.
@@ -99,15 +109,16 @@ fn refusals_met(group: &mut Group, text: &str) {
         else {
             continue;
         };
-        count(&mut tally, (*call, number.parse().unwrap_or(0)));
+        let number = number.parse().unwrap_or(0);
+        count(&mut tally, (*call, number));
         let place = match rest {
             ["at", place, ..] => Some(*place),
             _ => None,
         };
-        let placed = ["3", "27", "28"].contains(number);
+        let placed = [3, 27, 28, 31].contains(&number);
         group.check(place.is_some() == placed, || format!("the place in: {line}"));
         if let Some(place) = place.and_then(|place| place.parse::<usize>().ok()) {
-            count(&mut places, (*call, place));
+            count(&mut places, (*call, number, place));
         }
     }
     let expected: BTreeSet<(&str, u32)> =
@@ -117,18 +128,25 @@ fn refusals_met(group: &mut Group, text: &str) {
         let times = tally.get(&(call, number)).copied().unwrap_or(0);
         often(group, times, || format!("{call} refused {number}"));
     }
+    places_met(group, &places);
+}
+
+/// Every call that gives 3 has the least place, the largest and others, and so has 31.
+fn places_met(group: &mut Group, places: &Places) {
     for (call, place) in
         ["push", "push_all"].iter().flat_map(|call| [0, 1, 2, 10, 127].map(|place| (*call, place)))
     {
-        let times = places.get(&(call, place)).copied().unwrap_or(0);
+        let times = places.get(&(call, 3, place)).copied().unwrap_or(0);
         often(group, times, || format!("{call} refused 3 at {place}"));
     }
-    for call in ["verify", "synthesize", "look_up", "listing"] {
-        let others = places.keys().filter(|(name, place)| *name == call && *place > 0).count();
-        often(group, others, || format!("{call} refused 3 at other places than 0"));
+    let of_slips = ["verify", "synthesize", "look_up", "listing", "merge"].map(|call| (call, 3));
+    for (call, number) in of_slips.into_iter().chain([("merge", 31)]) {
+        let other = |key: &&(&str, u32, usize)| (key.0, key.1) == (call, number) && key.2 > 0;
+        let others = places.keys().filter(other).count();
+        often(group, others, || format!("{call} refused {number} at other places than 0"));
         for place in [0, TERMS_LIMIT - 1] {
-            let times = places.get(&(call, place)).copied().unwrap_or(0);
-            often(group, times, || format!("{call} refused 3 at {place}"));
+            let times = places.get(&(call, number, place)).copied().unwrap_or(0);
+            often(group, times, || format!("{call} refused {number} at {place}"));
         }
     }
 }

@@ -12,7 +12,7 @@ use crate::working::working;
 use std::collections::BTreeSet;
 
 /// A number of a slip or of a claim, from its two bytes.
-fn number_at(bytes: &[u8], cell: usize) -> u64 {
+pub fn number_at(bytes: &[u8], cell: usize) -> u64 {
     u64::from(bytes[2 * cell]) + 256 * u64::from(bytes[2 * cell + 1])
 }
 
@@ -79,6 +79,11 @@ fn check_passed_on(group: &mut Group, slip: &[u8], place: usize) {
         group.check(look_up(slip, &shelf, who, &mut record) == Err(refusal), words);
     }
     group.check(verify(slip, &[0; A_BYTES], &[9; B_BYTES], 129) == Err(refusal), words);
+    let (short, zeros) = (slip_of(2, &[0]), [0; SLIP_BYTES]);
+    for (first, second) in [(slip, slip), (slip, &zeros[..]), (&short[..], slip)] {
+        let merging = merge(first, second, &mut record[..SLIP_BYTES]);
+        group.check(merging == Err(refusal), words);
+    }
     group.check(record == [0x5a; RECORD_BYTES], words);
     let text = format!("{HEADER}\nrefused 3 at {place}\n");
     group.check(listing(slip) == text && working(slip) == text, words);

@@ -23,6 +23,11 @@ mod linecases;
 mod linechecks;
 mod lines;
 mod listing;
+mod merge;
+mod mergecases;
+mod mergechecks;
+mod merges;
+mod mergesmet;
 mod only;
 mod onlychecks;
 mod onlymet;
@@ -56,6 +61,7 @@ const USAGE: &str = "usage: reference COMMAND
   catalogues SEED COUNT   a script of random servings and makings
   typed SEED COUNT        random typed lines
   linecalls SEED COUNT    a script of readings of typed lines
+  merges SEED COUNT       a script of merges of two slips
   selftest                checks this program against itself and the papers
 ";
 
@@ -79,6 +85,7 @@ fn main() -> ExitCode {
         ["catalogues", seed, count] => generated(seed, count, catalogues::catalogues),
         ["typed", seed, count] => generated(seed, count, typed::typed),
         ["linecalls", seed, count] => generated(seed, count, linecalls::linecalls),
+        ["merges", seed, count] => generated(seed, count, merges::merges),
         ["selftest"] => ExitCode::from(u8::from(!selftest::selftest())),
         _ => usage(),
     }

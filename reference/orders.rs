@@ -6,6 +6,7 @@ use crate::checks::Group;
 use crate::join;
 use crate::limits::*;
 use crate::listing::{listing, HEADER};
+use crate::merges::{faulty, FAULTS};
 use crate::only::Only::*;
 use crate::refusals::Refusal;
 use crate::script::{hash, reading_bytes, replay, Call, Operation};
@@ -29,6 +30,7 @@ pub fn orders(group: &mut Group) {
     orders_of_listing(group);
     orders_of_lines(group);
     orders_of_columns(group);
+    orders_of_merges(group);
 }
 
 /// Each kind of fault for itself, with its number and place.
@@ -280,9 +282,31 @@ fn orders_of_columns(group: &mut Group) {
     }
 }
 
+/// 02, A9: 29, 30 and 31 "follow 5 for all the buffers and then each slip's own checks, first
+/// slip first, in this order". So a 4 of the first comes before a 1 of the second.
+fn orders_of_merges(group: &mut Group) {
+    let of_second = [bare(1), bare(2), term_at(3), bare(4)];
+    let of_both = [bare(29), bare(30), (31, Some(1))];
+    let order = [&OF_SLIP[..], &of_second, &of_both].concat();
+    group.check(order.len() == FAULTS, || format!("{order:?}"));
+    for set in 0..1u32 << FAULTS {
+        let [first, second] = faulty(set);
+        let first_fault = order.get(set.trailing_zeros() as usize).copied();
+        for short in 0..4 {
+            let less = |buffer: usize| usize::from(buffer == short);
+            let mut slip = vec![7; SLIP_BYTES - less(2)];
+            let outcome = merge(&first[less(0)..], &second[less(1)..], &mut slip);
+            let refused = told(kept(outcome, slip.iter().all(|&byte| byte == 7))).err();
+            // The last time no buffer is short.
+            let expected = if short < 3 { Some(bare(5)) } else { first_fault };
+            group.check(refused == expected, || format!("merging {set:b}: {refused:?}"));
+        }
+    }
+}
+
 // ---- each kind of fault ----
 
-/// Each refusal has its number in the papers, 3, 27 and 28 alone have a place, and the
+/// Each refusal has its number in the papers, 3, 27, 28 and 31 alone have a place, and the
 /// words tell both.
 fn numbers_and_words(group: &mut Group) {
     let all = [
@@ -303,6 +327,10 @@ fn numbers_and_words(group: &mut Group) {
         (Refusal::LineForm(0), (27, Some(0)), "refused 27 at 0"),
         (Refusal::LineForm(65535), (27, Some(65535)), "refused 27 at 65535"),
         (Refusal::LineRange(15), (28, Some(15)), "refused 28 at 15"),
+        (Refusal::Counts, bare(29), "refused 29"),
+        (Refusal::Multiple, bare(30), "refused 30"),
+        (Refusal::Disagreement(0), (31, Some(0)), "refused 31 at 0"),
+        (Refusal::Disagreement(127), (31, Some(127)), "refused 31 at 127"),
     ];
     for (refusal, expected, words) in all {
         group.check(told::<()>(Err(refusal)) == Err(expected), || format!("{refusal:?}"));
@@ -339,8 +367,8 @@ fn wrong_slips(group: &mut Group) {
     }
 }
 
-/// Making, serving, testing and the listing all pass on the refusal of a slip, before
-/// anything that is wrong with the shelf or the claim.
+/// Making, serving, testing, merging and the listing all pass on the refusal of a slip,
+/// before anything that is wrong with the shelf, the claim or both slips.
 fn check_wrong_slip(group: &mut Group, slip: &[u8], told_for_it: Told, words: impl Fn() -> String) {
     let mut record = [5; RECORD_BYTES];
     let expected = Some(told_for_it);
@@ -352,6 +380,11 @@ fn check_wrong_slip(group: &mut Group, slip: &[u8], told_for_it: Told, words: im
     }
     let testing = told(verify(slip, &[0; A_BYTES], &[0; B_BYTES], 200)).err();
     group.check(testing == expected, || format!("testing {}: {testing:?}", words()));
+    let (empty, zeros) = (slip_of(4093, &[]), [0; SLIP_BYTES]);
+    for (first, second) in [(slip, slip), (slip, &zeros[..]), (&empty[..], slip)] {
+        let merging = told(merge(first, second, &mut record[..SLIP_BYTES])).err();
+        group.check(merging == expected, || format!("merging {}: {merging:?}", words()));
+    }
     group.check(record == [5; RECORD_BYTES], || String::from("the record stays"));
     let (number, place) = told_for_it;
     let at = place.map_or(String::new(), |place| format!(" at {place}"));

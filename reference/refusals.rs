@@ -1,10 +1,11 @@
-//! The refusals of 01 and of 02 as far as A7, with their numbers and the place that
-//! a 3, a 27 or a 28 carries.
+//! The refusals of 01 and of 02 as far as A9, with their numbers and the place that
+//! a 3, a 27, a 28 or a 31 carries.
 
 use std::fmt;
 
-/// A call that is refused tells one of these. A term out of range and a typed line that
-/// cannot be read are not told without the place, and nothing else has one.
+/// A call that is refused tells one of these. A term out of range, a typed line that cannot
+/// be read and two terms that disagree are not told without the place, and nothing else has
+/// one.
 #[derive(Clone, Copy, PartialEq, Eq, Debug)]
 pub enum Refusal {
     /// 1: "the modulus is below 2 or above 4,095".
@@ -41,6 +42,12 @@ pub enum Refusal {
     /// 28: "a term, or a modulus above 2,147,483,647, is out of that range", with "the
     /// place of the digit that passes it".
     LineRange(usize),
+    /// 29: "the counts differ".
+    Counts,
+    /// 30: "the multiple is above the modulus limit".
+    Multiple,
+    /// 31: "two terms disagree modulo the common divisor, with the first place".
+    Disagreement(usize),
 }
 
 impl Refusal {
@@ -61,15 +68,19 @@ impl Refusal {
             Refusal::ClaimStart => 26,
             Refusal::LineForm(_) => 27,
             Refusal::LineRange(_) => 28,
+            Refusal::Counts => 29,
+            Refusal::Multiple => 30,
+            Refusal::Disagreement(_) => 31,
         }
     }
 
     /// The place carried along.
     pub fn place(self) -> Option<usize> {
         match self {
-            Refusal::Term(place) | Refusal::LineForm(place) | Refusal::LineRange(place) => {
-                Some(place)
-            }
+            Refusal::Term(place)
+            | Refusal::LineForm(place)
+            | Refusal::LineRange(place)
+            | Refusal::Disagreement(place) => Some(place),
             _ => None,
         }
     }

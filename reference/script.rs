@@ -22,9 +22,10 @@ pub enum Operation {
     Trace = 9,
     ReadLine = 10,
     PushAll = 11,
+    Merge = 12,
 }
 
-const OPERATIONS: [(Operation, &str); 12] = [
+const OPERATIONS: [(Operation, &str); 13] = [
     (Operation::Open, "open"),
     (Operation::Push, "push"),
     (Operation::Register, "register"),
@@ -37,6 +38,7 @@ const OPERATIONS: [(Operation, &str); 12] = [
     (Operation::Trace, "trace"),
     (Operation::ReadLine, "read_line"),
     (Operation::PushAll, "push_all"),
+    (Operation::Merge, "merge"),
 ];
 
 /// One call of a script. `number` is the modulus, the term, the l of a test, who asks in
@@ -57,7 +59,7 @@ impl Call {
     fn in_payload(operation: Operation) -> [bool; 3] {
         match operation {
             Operation::Verify => [true, true, true],
-            Operation::Generate | Operation::LookUp => [true, true, false],
+            Operation::Generate | Operation::LookUp | Operation::Merge => [true, true, false],
             Operation::Synthesize
             | Operation::Forge
             | Operation::ReadLine
@@ -186,7 +188,7 @@ pub fn line(call: &Call, reading: &mut Reading) -> String {
         Operation::Register => vec![first, second],
         Operation::Profile => vec![first],
         Operation::Verify => vec![],
-        Operation::Generate | Operation::LookUp => vec![third],
+        Operation::Generate | Operation::LookUp | Operation::Merge => vec![third],
         Operation::Synthesize | Operation::ReadLine => vec![second],
         Operation::Trace => vec![first, second, third],
         Operation::PushAll => vec![&held, first],
@@ -232,12 +234,8 @@ fn perform(
             outcome.map(reported_word)
         }
         Operation::ReadLine => calls::read_line(first, second).map(ok),
-        Operation::PushAll => {
-            // A refused one too tells how many were taken.
-            let (taken, outcome) = calls::push_all(reading, first);
-            let ended = outcome.map_or_else(|refusal| refusal.to_string(), ok);
-            Ok(format!("taken {taken} {ended}"))
-        }
+        Operation::PushAll => Ok(column_word(calls::push_all(reading, first))),
+        Operation::Merge => calls::merge(first, second, third).map(ok),
     }
 }
 
@@ -265,6 +263,12 @@ pub fn record_bytes(record: StepRecord) -> Vec<u8> {
 
 fn reported_word((length, only): Reported) -> String {
     format!("length {length} {only}")
+}
+
+/// A refused column too tells how many were taken.
+fn column_word((taken, outcome): (usize, Result<(), Refusal>)) -> String {
+    let ended = outcome.map_or_else(|refusal| refusal.to_string(), |()| String::from("ok"));
+    format!("taken {taken} {ended}")
 }
 
 fn verdict_word(verdict: Verdict) -> String {

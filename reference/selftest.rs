@@ -18,6 +18,9 @@ use crate::linecalls;
 use crate::linecases;
 use crate::linechecks;
 use crate::listing::listing;
+use crate::mergecases;
+use crate::mergechecks;
+use crate::merges;
 use crate::onlychecks;
 use crate::orders;
 use crate::random::Random;
@@ -32,7 +35,7 @@ use crate::steps::{self, coefficient, length, Pair};
 use crate::typed;
 
 /// The groups in the order in which they run.
-const GROUPS: [(&str, fn(&mut Group)); 43] = [
+const GROUPS: [(&str, fn(&mut Group)); 51] = [
     ("cases 1 to 15", cases::cases),
     ("tables 1 and 2 of 000", cases::tables),
     ("sheets and their text by hand", cases::sheets_by_hand),
@@ -76,6 +79,14 @@ const GROUPS: [(&str, fn(&mut Group)); 43] = [
     ("the only one, all lists of coefficients", onlychecks::all_lists),
     ("the only one, long sequences by rank", onlychecks::by_rank),
     ("the only one, every modulus", onlychecks::every_modulus),
+    ("merges by hand", mergecases::by_hand),
+    ("merges, all terms of small moduli", mergechecks::all_terms),
+    ("merges, all short sequences by all coefficients", mergechecks::all_sequences),
+    ("merges, random ones by their bytes", mergechecks::by_bytes),
+    ("merges, the larger least length for every k", mergechecks::lengths),
+    ("merges, 12 and 18 at length", mergechecks::twelve_and_eighteen),
+    ("merges of merged slips", mergechecks::again),
+    ("merges, moduli to 65,535", mergechecks::wide),
 ];
 
 /// True if every group passes.
@@ -340,8 +351,9 @@ fn scripts(group: &mut Group) {
     }
     scripts_of_lines(group);
     scripts_of_catalogues(group);
+    scripts_of_merges(group);
     group.check(replay(&[]) == (String::new(), true), || String::from("no calls"));
-    group.check(replay(&[12; 16]).0 == "script unknown 12\n", || String::from("unknown"));
+    group.check(replay(&[13; 16]).0 == "script unknown 13\n", || String::from("unknown"));
     listings(group);
 }
 
@@ -381,6 +393,30 @@ fn scripts_of_catalogues(group: &mut Group) {
         let found = replay(&random).0.lines().count();
         group.check(found > 60, || format!("catalogues {seed}: {found} random calls"));
     }
+}
+
+/// Every script of merges has those by hand in front; it is below 1.2 million bytes with the
+/// count of tests/expectations.sh.
+fn scripts_of_merges(group: &mut Group) {
+    let by_hand = merges::merges(0, 0);
+    let lines = replay(&by_hand).0.lines().count();
+    group.check(lines == 673, || format!("{lines} merges by hand"));
+    for seed in 0..4 {
+        let script = merges::merges(seed, 60);
+        group.check(script == merges::merges(seed, 60), || format!("merges {seed}: bytes"));
+        let random = merges::rounds(seed, 60);
+        let right = script == [&by_hand[..], &random].concat();
+        group.check(right, || format!("merges {seed}: by hand, then random"));
+        let (text, whole) = replay(&random);
+        let right = whole && text.lines().count() == 60;
+        group.check(right && text.lines().all(|line| line.starts_with("merge ")), || text.clone());
+        let (cut, whole) = replay(&random[..random.len() - 1]);
+        let begun = cut.strip_suffix("script cut short\n").unwrap_or("x");
+        let right = !whole && text.starts_with(begun) && begun.lines().count() == 59;
+        group.check(right, || format!("merges {seed}: cut"));
+    }
+    let size = merges::merges(16, 1500).len();
+    group.check(size < 1_200_000, || format!("{size} bytes of merges"));
 }
 
 /// The listing of random slips and of pieces of every size.
