@@ -4,9 +4,11 @@
 // and looking up by the C interface. The register is the public call: unlike the C versions it also checks the sequence and writes a and b
 // as cells. The steps alone start from the modulus: they include its prime power and a check of the terms. The trace is the register with
 // its working: every record is read, and their numbers are added up. A column is pushed to a fresh sequence by one call and by single ones.
+// Two queries are merged by the C interface. FLINT merges at coprime moduli only, from terms in its own form.
 #include <NTL/lzz_pX.h>
 #include <diverthrone.h>
 #include <flint/flint.h>
+#include <flint/fmpz_poly.h>
 #include <flint/nmod_poly.h>
 
 #include <algorithm>
@@ -15,6 +17,7 @@
 #include <cstring>
 #include <ctime>
 #include <functional>
+#include <numeric>
 #include <string>
 #include <vector>
 
@@ -28,6 +31,7 @@ void plain_register(uint32_t m, const uint32_t *s, int n, uint32_t *a, uint32_t 
 void tricks_register(uint32_t m, const uint32_t *s, int n, uint32_t *a, uint32_t *b, uint32_t *lens);
 uint64_t plain_read_line(const uint8_t *line, size_t len, uint8_t *query);
 uint64_t strtol_read_line(const char *line, uint8_t *query);
+uint64_t plain_merge(const uint8_t *first, size_t first_len, const uint8_t *second, size_t second_len, uint8_t *query, size_t query_len);
 }
 
 // A round times a batch of calls of each entry, all on the same sequences. Each round has other sequences and another order of the
@@ -298,6 +302,72 @@ static void columns() {
     }
 }
 
+// The query of the same sequence modulo m, which divides its modulus.
+static void lower(const uint8_t *query, uint32_t m, uint8_t *out) {
+    for (size_t i = 0; i < 130; i++) {
+        uint32_t x = i == 0 ? m : i == 1 ? diverthrone_cell(query, 1) : diverthrone_cell(query, i) % m;
+        out[2 * i] = x & 255, out[2 * i + 1] = x >> 8;
+    }
+}
+
+// The pool is random sequences modulo the multiple, and the pairs are their remainders: what merges them must give the pool back. With
+// `apart` the last terms disagree. FLINT merges vectors of equal length: fmpz_poly_CRT_ui of 2.9.0 would drop the terms past the last one
+// of the second polynomial that is not 0. What a batch of nothing takes is taken off: reading the clock was a fifth of what C took for 16
+// terms.
+static void merge(uint32_t first_modulus, uint32_t second_modulus, int n, bool apart) {
+    static uint8_t first[POOL][260], second[POOL][260], ours[260], plain[260], lent[260];
+    static fmpz first_row[POOL][128], merged_row[128], modulus[1];
+    static mp_limb_t second_row[POOL][128];
+    const bool coprime = std::gcd(first_modulus, second_modulus) == 1;
+    prepare(std::lcm(first_modulus, second_modulus), n);
+    fmpz_set_ui(modulus, first_modulus);
+    auto flint = [=](int j) {
+        _fmpz_poly_CRT_ui(merged_row, first_row[j], n, modulus, second_row[j], n, second_modulus, n_preinvert_limb(second_modulus), 0);
+    };
+    memset(lent, 255, 260);
+    for (int j = 0; j < POOL; j++) {
+        lower(queries[j], first_modulus, first[j]), lower(queries[j], second_modulus, second[j]);
+        if (apart) {
+            uint32_t y = (diverthrone_cell(second[j], n + 1) + 1) % second_modulus;
+            second[j][2 * n + 2] = y & 255, second[j][2 * n + 3] = y >> 8;
+        }
+        memcpy(ours, lent, 260), memcpy(plain, lent, 260);
+        uint64_t r = diverthrone_merge(first[j], 260, second[j], 260, ours, 260);
+        bool same = r == (apart ? 31 + 256 * (uint64_t)(n - 1) : 0) && r == plain_merge(first[j], 260, second[j], 260, plain, 260) &&
+                    !memcmp(ours, plain, 260) && !memcmp(ours, apart ? lent : queries[j], 260);
+        for (int i = 0; i < n; i++)
+            fmpz_set_ui(&first_row[j][i], diverthrone_cell(first[j], i + 2)), second_row[j][i] = diverthrone_cell(second[j], i + 2);
+        if (coprime) flint(j);
+        for (int i = 0; coprime && i < n; i++) same = same && fmpz_equal_ui(&merged_row[i], terms[j][i]);
+        if (!same) {
+            printf("%u and %u: DIFFER\n", first_modulus, second_modulus);
+            return;
+        }
+    }
+    std::vector<Entry> e = {{"merge", [](int j) { diverthrone_merge(first[j], 260, second[j], 260, ours, 260); }},
+                            {"plain", [](int j) { plain_merge(first[j], 260, second[j], 260, plain, 260); }},
+                            {"record", [](int j) { diverthrone_synthesize(queries[j], 260, record, RECORD); }},
+                            {"nothing", [](int) {}},
+                            {"flint", flint}};
+    if (!coprime) e.pop_back();
+    auto t = measure(e, 401);
+    double nothing = t[3];
+    for (double &x : t) x -= nothing;
+    char by_flint[16] = "   -";
+    if (coprime) snprintf(by_flint, sizeof by_flint, "%.2f", t[0] / t[4]);
+    printf("  %4u  %4u  %3d  %.2f  %s  %.3f  %.2f%s\n", first_modulus, second_modulus, n, t[0] / t[1], by_flint, t[0] / t[2], t[0],
+           apart ? "  refused with 31 at the last place" : "");
+}
+
+static void merges() {
+    printf("merge, both moduli and terms: / C with %%, / FLINT at coprime moduli, without checks and cells, / record of the merged query, us\n");
+    const uint32_t moduli[][2] = {{12, 18}, {63, 65}, {64, 32}, {4095, 4095}, {2047, 2}};
+    for (int n : {128, 16}) {
+        for (auto &m : moduli) merge(m[0], m[1], n, false);
+        merge(12, 18, n, true);
+    }
+}
+
 int main() {
     primes();
     composites();
@@ -306,4 +376,5 @@ int main() {
     look_up();
     lines();
     columns();
+    merges();
 }

@@ -1,6 +1,8 @@
 -- `timing_register` meets its contract: the promise of `sequence::register`, with the reply as a number.
 -- Assumes nothing.
+use mathlib.Core.Path.{sym, ap, _∙_}
 use borrow.Author.Needs.{needs}
+use Rattle.timing.specs.Entries.{repliedBy}
 use Rattle.timing.proofs.timing_register.Statement.{statement}
 use Rattle.timing.proofs.timing_register.Tie as tie
 
@@ -41,7 +43,7 @@ same-length-4 : tie.Need-same-length-4
 same-length-4 c = search needs
 
 returns-2 : tie.Need-returns-2
-returns-2 c = (cc, (cc, cc))
+returns-2 c = (ap repliedBy (sym (c .enum-told .given .1) ∙ c .before .before .before .before .before .before .register .ensures .0), (cc, cc))
 
 pub timing-register-spec : {M : Type 1} → statement M
 timing-register-spec =
