@@ -101,8 +101,8 @@ uint64_t diverthrone_read_line(const uint8_t *line, size_t line_len, uint8_t *qu
 /* Merges two queries of the same sequence to one modulo the least common multiple of their moduli, with the same count. Each of its terms is
  * the one number below the multiple that leaves the first query's term modulo the first modulus and the second's modulo the second: 7,2,11
  * modulo 12 and 13,2,17 modulo 18 give 31,2,35 modulo 36. Value 0. The first and the second may be the same buffer.
- * For every k the least length of its first k terms is the larger of the two queries' least lengths, so its register's length is the larger
- * of the two lengths. Its coefficients need not leave those of the two registers, which may disagree.
+ * For every k the least length of its first k terms is the larger of the least lengths of the two queries' first k terms, so its register's
+ * length is the larger of theirs. Its register's coefficients need not leave those of the two registers, which may disagree.
  * Refusals in order: 5 (first, second, query), the first's 1, 2, 3, 4, the second's 1, 2, 3, 4, then 29, 30, 31.
  * 1, 2, 3 with its place, and 4 do not tell which of the two queries they mean: it is the first if diverthrone_synthesize refuses that one,
  * which it then does with the same reply, else the second. */

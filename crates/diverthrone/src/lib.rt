@@ -8,12 +8,11 @@ ghost use mathlib.Core.Path.{_≡_};
 ghost use Prim.Native.Nat.{_≤_, min};
 ghost use Rattle.sequence.specs.Answers.{refusal};
 ghost use Rattle.sequence.specs.Report.{filled};
-ghost use Rattle.sequence.specs.Rules.{sequenceOf};
 ghost use Rattle.candidate.specs.Rules.{verifyAnswer, generateOf, generateAnswer, generatedIn};
 ghost use Rattle.catalogue.specs.Rules.{recordOf, synthesizeOf, synthesizeAnswer, lookUpOf, lookUpAnswer, servedIn};
 ghost use Rattle.lines.specs.Reading.{foundIn};
 ghost use Rattle.lines.specs.Reply.{readOf, readAnswer, queryIn};
-ghost use Rattle.merge.specs.Rules.{mergedQuery, mergeOf, mergeAnswer};
+ghost use Rattle.merge.specs.Rules.{mergeOf, mergeAnswer, mergedIn};
 ghost use Rattle.diverthrone.specs.Codes.{lastPlace, codeOf};
 
 // 2^56 - 1: the last place that fits beside the number of a refusal.
@@ -129,7 +128,7 @@ pub extern "C" fn diverthrone_read_line(line: &[u8], query: &mut [u8]) -> u64
 #[no_mangle]
 pub extern "C" fn diverthrone_merge(first: &[u8], second: &[u8], query: &mut [u8]) -> u64
     ensures { λ r. ⌜ r ≡ codeOf (mergeAnswer (now (first .entry)) (now (second .entry)) (now (query .entry))) ⌝ }
-    ensures { λ r. ⌜ now (query .exit) ≡ filled (mergeOf (now (first .entry)) (now (second .entry)) (now (query .entry))) (mergedQuery (sequenceOf (now (first .entry))) (sequenceOf (now (second .entry)))) (now (query .entry)) ⌝ }
+    ensures { λ r. ⌜ now (query .exit) ≡ mergedIn (mergeOf (now (first .entry)) (now (second .entry)) (now (query .entry))) (now (first .entry)) (now (second .entry)) (now (query .entry)) ⌝ }
 {
     let o = merge::merge(first, second, query);
     match o {

@@ -16,4 +16,4 @@ pub mod Typed
 pub mod Listing
 pub mod Printed
 pub mod Merging
-pub mod Merged
+pub mod MergingRows

@@ -2,6 +2,7 @@
 -- Assumes nothing.
 use mathlib.Core.Path.{_≡_, refl, sym, ap, ap₂, _∙_, subst}
 use mathlib.Core.Bool.{Bool, true, false}
+use mathlib.Core.Logic.{_⊎_, inl, inr}
 use mathlib.Core.List.{List, [], map}
 use Prim.Native.Nat.{ℕ, zero, _+_, _%_, _≤_, _<_, max}
 use native.Mathlib.Nat.{le-antisymm}
@@ -18,7 +19,6 @@ use Rattle.residue.specs.Common.{commonDivisor, commonMultiple}
 use Rattle.residue.proofs.Congruence.{of-eq}
 use Rattle.residue.proofs.Common.{greatest, multiple-pos, multiple-left, multiple-right, multiple-least}
 use Rattle.recurrence.specs.Least.{Least}
-use Rattle.recurrence.specs.Register as T
 use Rattle.recurrence.specs.Register.{complexity}
 use Rattle.recurrence.proofs.Length.{least-unique}
 use Rattle.recurrence.proofs.Register.{complexity-is-least, complexity-same}
@@ -29,25 +29,24 @@ use Rattle.sequence.specs.declared.Outcome.{Outcome}
 use Rattle.sequence.specs.declared.Outcome.the-variants.{Done, Refused}
 use Rattle.sequence.specs.declared.Reported.{Reported}
 use Rattle.sequence.specs.declared.Reported.the-variants as P
-use Rattle.sequence.specs.Limits.{maxModulus, maxTerms, queryBytes, aBytes, bBytes, profileBytes}
+use Rattle.sequence.specs.Limits.{maxModulus, queryBytes, aBytes, bBytes, profileBytes}
 use Rattle.sequence.specs.Rules.{IsSound, openOf, sequenceOf, checkOf}
-use Rattle.sequence.specs.Report.{filled}
 use Rattle.sequence.specs.Answers.{refusal}
 use Rattle.sequence.proofs.Laws.{term-cell, check-done, check-small, same-number, refused-done}
 use Rattle.catalogue.specs.Rules.{recordBytes}
-use Rattle.merge.specs.Rules.{multipleOf, divisorOf, mergedTerm, mergedQuery, comparedOf, andThen, mergeOf}
+use Rattle.merge.specs.Rules.{mergedTerm, mergedQuery, comparedOf, andThen, pastBuffers, mergeOf, mergedIn}
 use Rattle.merge.proofs.Laws as L
 use Rattle.merge.proofs.Laws.{Mergeable, ApartAt, Comparison, comparing, counts-told, multiple-told, terms-told, merges-told, mergeable}
 use Rattle.merge.proofs.Merger.{both-agree, term-both, term-only, merged-modulus, merged-count, merged-term, merged-passes, merged-complexity}
 use Rattle.merge.proofs.Answers.{merge-told}
 use Rattle.guarantees.specs.Calls.{Call, push, afterAll, taken}
 use Rattle.guarantees.specs.Claims.{ShownBy, Demand3, MadeServedReported, termsOf}
-use Rattle.guarantees.specs.Refusals.{Clean}
+use Rattle.guarantees.specs.Refusals.{Readable, FirstWrong, Clean}
 use Rattle.guarantees.specs.Merging as M
-use Rattle.guarantees.specs.Merging.{IsDivisor, IsMultiple, LeavesBoth, Comparable, Reason, first-buffer, second-buffer, query-buffer, first-own, second-own, profileCell, lengthMade, Takes, IsMerged, mergedIn, Merges, TwoQueries}
+use Rattle.guarantees.specs.Merging.{GreatestDivisor, LeastMultiple, LeavesBoth, Comparable, Reason, first-buffer, second-buffer, query-buffer, first-own, second-own, profileCell, lengthMade, Takes, IsMerged, mergedExit, TwoQueries}
 use Rattle.guarantees.proofs.Demand.{demand}
 use Rattle.guarantees.proofs.Records.{least, most, terms-long, terms-pushed, empty-made, same}
-use Rattle.guarantees.proofs.Refusals.{passed-clean, clean-passed}
+use Rattle.guarantees.proofs.Refusals.{passed-clean, clean-passed, every-place}
 
 -- ---- what the calls show of one query
 
@@ -120,13 +119,13 @@ module _ (x y : List ℕ) (fx : checkOf x ≡ Done) (fy : checkOf y ≡ Done) wh
   bpos : zero < cellAt y 0
   bpos = omega (arith, least y fy)
 
-  pub divisor : IsDivisor (cellAt x 0) (cellAt y 0) (commonDivisor (cellAt x 0) (cellAt y 0))
+  pub divisor : GreatestDivisor (cellAt x 0) (cellAt y 0) (commonDivisor (cellAt x 0) (cellAt y 0))
   divisor = let G = greatest (cellAt x 0) (cellAt y 0) apos in record { left = G .left; right = G .right; most = G .most }
 
-  divisor-one : (g : ℕ) → IsDivisor (cellAt x 0) (cellAt y 0) g → g ≡ commonDivisor (cellAt x 0) (cellAt y 0)
+  divisor-one : (g : ℕ) → GreatestDivisor (cellAt x 0) (cellAt y 0) g → g ≡ commonDivisor (cellAt x 0) (cellAt y 0)
   divisor-one g h = le-antisymm (divisor .most g (h .left) (h .right)) (h .most (commonDivisor (cellAt x 0) (cellAt y 0)) (divisor .left) (divisor .right))
 
-  pub multiple : IsMultiple (cellAt x 0) (cellAt y 0) (commonMultiple (cellAt x 0) (cellAt y 0))
+  pub multiple : LeastMultiple (cellAt x 0) (cellAt y 0) (commonMultiple (cellAt x 0) (cellAt y 0))
   multiple =
       record {
         positive = multiple-pos (cellAt x 0) (cellAt y 0) apos bpos;
@@ -135,7 +134,7 @@ module _ (x y : List ℕ) (fx : checkOf x ≡ Done) (fy : checkOf y ≡ Done) wh
         least = multiple-least (cellAt x 0) (cellAt y 0) apos bpos;
       }
 
-  multiple-one : (k : ℕ) → IsMultiple (cellAt x 0) (cellAt y 0) k → k ≡ commonMultiple (cellAt x 0) (cellAt y 0)
+  multiple-one : (k : ℕ) → LeastMultiple (cellAt x 0) (cellAt y 0) k → k ≡ commonMultiple (cellAt x 0) (cellAt y 0)
   multiple-one k h =
       le-antisymm (h .least (commonMultiple (cellAt x 0) (cellAt y 0)) (multiple .positive) (multiple .left) (multiple .right))
       (multiple .least k (h .positive) (h .left) (h .right))
@@ -174,7 +173,7 @@ module _ (x y : List ℕ) (fx : checkOf x ≡ Done) (fy : checkOf y ≡ Done) wh
 
     -- place i is the first where they disagree, said of the cells
     apart-cells :
-        (g i : ℕ) → IsDivisor (cellAt x 0) (cellAt y 0) g → commonMultiple (cellAt x 0) (cellAt y 0) ≤ maxModulus → i < cellAt x 1 → (M.AgreeAt x y g i → ⊥)
+        (g i : ℕ) → GreatestDivisor (cellAt x 0) (cellAt y 0) g → commonMultiple (cellAt x 0) (cellAt y 0) ≤ maxModulus → i < cellAt x 1 → (M.AgreeAt x y g i → ⊥)
         → ((j : ℕ) → j < i → M.AgreeAt x y g j) → ApartAt s t i
     unfolding sequenceOf
     apart-cells g i h within here apart before =
@@ -287,7 +286,7 @@ module _ (x y : List ℕ) (fx : checkOf x ≡ Done) (fy : checkOf y ≡ Done) wh
         record {
           passes = fz;
           clean = passed-clean z fz;
-          modulus = subst (IsMultiple (cellAt x 0) (cellAt y 0)) (sym same-modulus) multiple;
+          modulus = subst (LeastMultiple (cellAt x 0) (cellAt y 0)) (sym same-modulus) multiple;
           first-count = x-count;
           second-count = y-count;
           leaves = λ i h. let k : i < cellAt x 1 = omega (arith, x-count) in subst (LeavesBoth x y i) (sym (term-is i k)) (term-leaves counts-same i k (agree-at i k));
@@ -321,7 +320,7 @@ module _ (x y query : List ℕ) where
 
   -- past 5 the reply is that of the checks, and past these that of the comparison
   checks : length x ≡ queryBytes → length y ≡ queryBytes → length query ≡ queryBytes
-      → mergeOf x y query ≡ andThen (checkOf x) (andThen (checkOf y) (comparedOf (sequenceOf x) (sequenceOf y)))
+      → mergeOf x y query ≡ pastBuffers x y
   unfolding mergeOf
   checks hx hy hq = rw (eq-eqb (length x) queryBytes hx, eq-eqb (length y) queryBytes hy, eq-eqb (length query) queryBytes hq) refl
 
@@ -389,6 +388,36 @@ module _ (x y query : List ℕ) where
       go (M.terms k g i c d h l hg here apart before e) = c
       go (M.done k g c d h l hg agree e) = c
 
+  -- ---- 3
+
+  wrong-told : (i : ℕ) → mergeOf x y query ≡ Refused (R.Term i) → (Readable x × FirstWrong x i) ⊎ (Clean x × Readable y × FirstWrong y i)
+  wrong-told i told = go reason-told
+    where
+      -- the query's own refusal is this one
+      own : (z : List ℕ) {r : Refusal} → checkOf z ≡ Refused r → mergeOf x y query ≡ Refused r → Readable z × FirstWrong z i
+      own z h e = let p = every-place .checked z .told-first i (h ∙ sym e ∙ told) in (p .1, p .2)
+
+      -- another number than 3
+      other : {A : Type 0} {r : Refusal} → mergeOf x y query ≡ Refused r → (refusal r .number ≡ 3 → ⊥) → A
+      other e k = absurd (k (same-number (sym e ∙ told)))
+
+      go : Reason x y query (mergeOf x y query) → (Readable x × FirstWrong x i) ⊎ (Clean x × Readable y × FirstWrong y i)
+      go (first-buffer h e) = other e (λ k. omega arith)
+      go (second-buffer h e) = other e (λ k. omega arith)
+      go (query-buffer h e) = other e (λ k. omega arith)
+      go (first-own r hx hy hq h e) = inl (own x h e)
+      go (second-own r c hy hq h e) = let o = own y h e in inr (c, o .0, o .1)
+      go (M.counts c d e) = other e (λ k. omega arith)
+      go (M.multiple k c d h l e) = other e (λ k. omega arith)
+      go (M.terms k g j c d h l hg here apart before e) = other e (λ k. omega arith)
+      go (M.done k g c d h l hg agree e) = refused-done (sym told ∙ e)
+
+  first-wrong-told : (i : ℕ) → Readable x → FirstWrong x i → length y ≡ queryBytes → length query ≡ queryBytes → mergeOf x y query ≡ Refused (R.Term i)
+  first-wrong-told i r f hy hq = exactly-told (Refused (R.Term i)) (first-own (R.Term i) (r .size) hy hq (every-place .checked x .first-told i tt r f) refl)
+
+  second-wrong-told : (i : ℕ) → Clean x → Readable y → FirstWrong y i → length query ≡ queryBytes → mergeOf x y query ≡ Refused (R.Term i)
+  second-wrong-told i c r f hq = exactly-told (Refused (R.Term i)) (second-own (R.Term i) c (r .size) hq (every-place .checked y .first-told i tt r f) refl)
+
   -- ---- 31
 
   module _ (c : Comparable x y query) where
@@ -399,7 +428,7 @@ module _ (x y query : List ℕ) where
     py = clean-passed y (c .second)
 
     none-apart-told :
-        (k i : ℕ) → cellAt x 1 ≡ cellAt y 1 → IsMultiple (cellAt x 0) (cellAt y 0) k → k ≤ maxModulus → i < cellAt x 1
+        (k i : ℕ) → cellAt x 1 ≡ cellAt y 1 → LeastMultiple (cellAt x 0) (cellAt y 0) k → k ≤ maxModulus → i < cellAt x 1
         → ((v : ℕ) → LeavesBoth x y i v → ⊥) → ((j : ℕ) → j < i → (v : ℕ) × LeavesBoth x y j v) → mergeOf x y query ≡ Refused (R.TermsDisagree i)
     unfolding sequenceOf
     none-apart-told k i d h l here never before =
@@ -449,18 +478,18 @@ module _ (x y query : List ℕ) where
 
   -- ---- done
 
-  merged-told : mergeOf x y query ≡ Done → IsMerged x y (mergedIn x y query)
+  merged-told : mergeOf x y query ≡ Done → IsMerged x y (mergedExit x y query)
   merged-told told =
-      subst (λ (o : Outcome). IsMerged x y (filled o (mergedQuery (sequenceOf x) (sequenceOf y)) query)) (sym told)
+      subst (λ (o : Outcome). IsMerged x y (mergedIn o x y query)) (sym told)
       (is-merged x y (clean-passed x (c .first)) (clean-passed y (c .second)) (mergeable (sequenceOf x) (sequenceOf y) (sym (held c) ∙ told)))
     where
       c : Comparable x y query
       c = compared-when Done told (λ r h e. refused-done (sym e))
 
-  kept-told : (mergeOf x y query ≡ Done → ⊥) → mergedIn x y query ≡ query
+  kept-told : (mergeOf x y query ≡ Done → ⊥) → mergedExit x y query ≡ query
   kept-told other = go (mergeOf x y query) refl
     where
-      go : (o : Outcome) → mergeOf x y query ≡ o → filled o (mergedQuery (sequenceOf x) (sequenceOf y)) query ≡ query
+      go : (o : Outcome) → mergeOf x y query ≡ o → mergedIn o x y query ≡ query
       go Done e = absurd (other e)
       go (Refused r) e = refl
 
@@ -470,6 +499,9 @@ two-queries x y query =
     record {
       reason = reason-told x y query;
       exactly = exactly-told x y query;
+      wrong-term = wrong-told x y query;
+      first-wrong = first-wrong-told x y query;
+      second-wrong = second-wrong-told x y query;
       apart-none = apart-never x y query;
       apart-first = apart-before x y query;
       none-apart = λ k i c d h l here never before. none-apart-told x y query c k i d h l here never before;

@@ -221,6 +221,7 @@ every-place =
     record {
       passed-clean = passed-clean;
       clean-passed = clean-passed;
+      checked = λ query. placed O.Refused (checkOf query) (Unit {0}) query (λ i e. (tt, e)) (λ i l e. e);
       synthesized = synthesized;
       looked-up = looked-up;
       verified = verified;

@@ -11,4 +11,4 @@ pub mod Lines
 pub mod Typed
 pub mod Listing
 pub mod Merging
-pub mod Merged
+pub mod MergingRows

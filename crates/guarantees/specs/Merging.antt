@@ -2,6 +2,7 @@
 -- for the three.
 -- Assumes nothing.
 use mathlib.Core.Path.{_≡_}
+use mathlib.Core.Logic.{_⊎_}
 use mathlib.Core.List.{List}
 use Prim.Native.Nat.{ℕ, zero, _+_, _%_, _≤_, _<_, max}
 use lib.ListN.{length}
@@ -14,23 +15,23 @@ use Rattle.sequence.specs.declared.Outcome.{Outcome}
 use Rattle.sequence.specs.declared.Outcome.the-variants.{Done, Refused}
 use Rattle.sequence.specs.Limits.{maxModulus, queryBytes, profileBytes}
 use Rattle.sequence.specs.Answers.{outcomeAnswer}
-use Rattle.sequence.specs.Rules.{openOf, sequenceOf, checkOf}
+use Rattle.sequence.specs.Rules.{openOf, checkOf}
 use Rattle.sequence.specs.Report.{profileOf, profileBuffer, filled}
 use Rattle.catalogue.specs.Rules.{recordBytes, lengthCell, recordOf, synthesizeOf}
-use Rattle.merge.specs.Rules.{mergedQuery, mergeOf, mergeAnswer}
+use Rattle.merge.specs.Rules.{mergeOf, mergeAnswer, mergedIn}
 use Rattle.guarantees.specs.Calls.{Call, afterAll, taken}
 use Rattle.guarantees.specs.Claims.{termsOf}
-use Rattle.guarantees.specs.Refusals.{Clean}
+use Rattle.guarantees.specs.Refusals.{Readable, FirstWrong, Clean}
 
 -- ---- the words of the request
 
 -- g is the greatest common divisor of a and b, m their least common multiple
-pub record IsDivisor (a b g : ℕ) : Type 0 where
+pub record GreatestDivisor (a b g : ℕ) : Type 0 where
   pub left : a % g ≡ zero
   pub right : b % g ≡ zero
   pub most : (d : ℕ) → a % d ≡ zero → b % d ≡ zero → d ≤ g
 
-pub record IsMultiple (a b m : ℕ) : Type 0 where
+pub record LeastMultiple (a b m : ℕ) : Type 0 where
   pub positive : zero < m
   pub left : m % a ≡ zero
   pub right : m % b ≡ zero
@@ -59,17 +60,17 @@ pub data Reason (x y query : List ℕ) (o : Outcome) : Type 0 where
   first-buffer : (length x ≡ queryBytes → ⊥) → o ≡ Refused R.Buffer → Reason x y query o
   second-buffer : (length y ≡ queryBytes → ⊥) → o ≡ Refused R.Buffer → Reason x y query o
   query-buffer : (length query ≡ queryBytes → ⊥) → o ≡ Refused R.Buffer → Reason x y query o
-  -- 1, 2, 3 or 4 of the first query, then of the second where the first has none
+  -- 1, 2, 3 or 4: what the first query's own check refuses, then the second's where the first is clean
   first-own : (r : Refusal) → length x ≡ queryBytes → length y ≡ queryBytes → length query ≡ queryBytes → checkOf x ≡ Refused r → o ≡ Refused r → Reason x y query o
   second-own : (r : Refusal) → Clean x → length y ≡ queryBytes → length query ≡ queryBytes → checkOf y ≡ Refused r → o ≡ Refused r → Reason x y query o
   -- 29, 30, 31
   counts : Comparable x y query → (cellAt x 1 ≡ cellAt y 1 → ⊥) → o ≡ Refused R.CountsDiffer → Reason x y query o
-  multiple : (m : ℕ) → Comparable x y query → cellAt x 1 ≡ cellAt y 1 → IsMultiple (cellAt x 0) (cellAt y 0) m → maxModulus < m → o ≡ Refused R.MultipleAbove → Reason x y query o
+  multiple : (m : ℕ) → Comparable x y query → cellAt x 1 ≡ cellAt y 1 → LeastMultiple (cellAt x 0) (cellAt y 0) m → maxModulus < m → o ≡ Refused R.MultipleAbove → Reason x y query o
   terms :
-      (m g i : ℕ) → Comparable x y query → cellAt x 1 ≡ cellAt y 1 → IsMultiple (cellAt x 0) (cellAt y 0) m → m ≤ maxModulus → IsDivisor (cellAt x 0) (cellAt y 0) g
+      (m g i : ℕ) → Comparable x y query → cellAt x 1 ≡ cellAt y 1 → LeastMultiple (cellAt x 0) (cellAt y 0) m → m ≤ maxModulus → GreatestDivisor (cellAt x 0) (cellAt y 0) g
       → i < cellAt x 1 → (AgreeAt x y g i → ⊥) → ((j : ℕ) → j < i → AgreeAt x y g j) → o ≡ Refused (R.TermsDisagree i) → Reason x y query o
   done :
-      (m g : ℕ) → Comparable x y query → cellAt x 1 ≡ cellAt y 1 → IsMultiple (cellAt x 0) (cellAt y 0) m → m ≤ maxModulus → IsDivisor (cellAt x 0) (cellAt y 0) g
+      (m g : ℕ) → Comparable x y query → cellAt x 1 ≡ cellAt y 1 → LeastMultiple (cellAt x 0) (cellAt y 0) m → m ≤ maxModulus → GreatestDivisor (cellAt x 0) (cellAt y 0) g
       → ((j : ℕ) → j < cellAt x 1 → AgreeAt x y g j) → o ≡ Done → Reason x y query o
 
 -- ---- the merged query
@@ -93,7 +94,7 @@ pub record IsMerged (x y z : List ℕ) : Type 0 where
   -- it meets no refusal of its own; its modulus is the least common multiple, its count theirs
   pub passes : checkOf z ≡ Done
   pub clean : Clean z
-  pub modulus : IsMultiple (cellAt x 0) (cellAt y 0) (cellAt z 0)
+  pub modulus : LeastMultiple (cellAt x 0) (cellAt y 0) (cellAt z 0)
   pub first-count : cellAt z 1 ≡ cellAt x 1
   pub second-count : cellAt z 1 ≡ cellAt y 1
   -- each of its terms is the one number below its modulus that leaves both
@@ -114,24 +115,28 @@ pub record IsMerged (x y z : List ℕ) : Type 0 where
       → lengthMade z out-z ≡ max (lengthMade x out-x) (lengthMade y out-y)
 
 -- the query buffer after the call
-abbrev pub mergedIn : List ℕ → List ℕ → List ℕ → List ℕ
-mergedIn x y query = filled (mergeOf x y query) (mergedQuery (sequenceOf x) (sequenceOf y)) query
+abbrev pub mergedExit : List ℕ → List ℕ → List ℕ → List ℕ
+mergedExit x y query = mergedIn (mergeOf x y query) x y query
 
 pub record Merges (x y query : List ℕ) : Type 0 where
   -- what is replied has its reason, and what has a reason is replied
   pub reason : Reason x y query (mergeOf x y query)
   pub exactly : (o : Outcome) → Reason x y query o → mergeOf x y query ≡ o
+  -- 3 has the first wrong place of the first query, or, where that is clean, of the second; and back
+  pub wrong-term : (i : ℕ) → mergeOf x y query ≡ Refused (R.Term i) → (Readable x × FirstWrong x i) ⊎ (Clean x × Readable y × FirstWrong y i)
+  pub first-wrong : (i : ℕ) → Readable x → FirstWrong x i → length y ≡ queryBytes → length query ≡ queryBytes → mergeOf x y query ≡ Refused (R.Term i)
+  pub second-wrong : (i : ℕ) → Clean x → Readable y → FirstWrong y i → length query ≡ queryBytes → mergeOf x y query ≡ Refused (R.Term i)
   -- 31 is given exactly where no number leaves both terms, at the first such place
   pub apart-none : (i : ℕ) → mergeOf x y query ≡ Refused (R.TermsDisagree i) → (v : ℕ) → LeavesBoth x y i v → ⊥
   pub apart-first : (i : ℕ) → mergeOf x y query ≡ Refused (R.TermsDisagree i) → (j : ℕ) → j < i → (v : ℕ) × LeavesBoth x y j v
   pub none-apart :
-      (m i : ℕ) → Comparable x y query → cellAt x 1 ≡ cellAt y 1 → IsMultiple (cellAt x 0) (cellAt y 0) m → m ≤ maxModulus → i < cellAt x 1
+      (m i : ℕ) → Comparable x y query → cellAt x 1 ≡ cellAt y 1 → LeastMultiple (cellAt x 0) (cellAt y 0) m → m ≤ maxModulus → i < cellAt x 1
       → ((v : ℕ) → LeavesBoth x y i v → ⊥) → ((j : ℕ) → j < i → (v : ℕ) × LeavesBoth x y j v) → mergeOf x y query ≡ Refused (R.TermsDisagree i)
   -- by number it is the answer that the calls promise, for C too
   pub by-number : outcomeAnswer (mergeOf x y query) ≡ mergeAnswer x y query
   -- on a refusal the buffer is as lent; otherwise it holds the merged query
-  pub kept : (mergeOf x y query ≡ Done → ⊥) → mergedIn x y query ≡ query
-  pub merged : mergeOf x y query ≡ Done → IsMerged x y (mergedIn x y query)
+  pub kept : (mergeOf x y query ≡ Done → ⊥) → mergedExit x y query ≡ query
+  pub merged : mergeOf x y query ≡ Done → IsMerged x y (mergedExit x y query)
 
 unfoldable pub TwoQueries : Type 0
 TwoQueries = (x y query : List ℕ) → Merges x y query

@@ -80,6 +80,8 @@ pub record PushPlaced (m n : ℕ) (s : Sequence) (t : ℕ) : Type 0 where
 pub record EveryPlace : Type 0 where
   pub passed-clean : (query : List ℕ) → checkOf query ≡ O.Done → Clean query
   pub clean-passed : (query : List ℕ) → Clean query → checkOf query ≡ O.Done
+  -- the check itself, which every call that is handed a query passes on
+  pub checked : (query : List ℕ) → Placed O.Refused (checkOf query) (Unit {0}) query
   pub synthesized : (query out : List ℕ) → Placed O.Refused (synthesizeOf query out) (length out ≡ recordBytes) query
   pub looked-up : (query catalogue out : List ℕ) → Placed S.Refused (lookUpOf query catalogue out) (length out ≡ recordBytes) query
   pub verified : (query a b : List ℕ) (l : ℕ) → Placed W.Refused (verifyOf query a b l) ((length a ≡ aBytes) × (length b ≡ bBytes)) query

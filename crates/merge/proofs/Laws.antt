@@ -3,19 +3,18 @@
 use mathlib.Core.Path.{_≡_, refl, sym, ap, ap₂, _∙_, subst}
 use mathlib.Core.Bool.{Bool, true, false, not}
 use mathlib.Core.List.{List, _∷_}
-use Prim.Native.Nat.{ℕ, zero, _+_, _*_, _/_, _%_, _≤_, _<_}
+use Prim.Native.Nat.{ℕ, zero, _*_, _/_, _%_, _≤_, _<_}
 use native.Mathlib.Nat.{div-le-self, mul-le-mul-right}
 use native.Mathlib.Omega.{arith}
 use lib.Dec.{eqb, ltb}
-use borrow.Author.Tests.{eqb-true, ltb-true, ltb-false, lt-ltb, le-ltb, eq-eqb, ne-eqb}
+use borrow.Author.Tests.{not-false, eqb-true, ltb-true, ltb-false, lt-ltb, le-ltb, eq-eqb, ne-eqb}
 use Rattle.lists.specs.Choice.{pick}
 use Rattle.lists.specs.Table.{at, tabulate}
 use Rattle.lists.proofs.Search.{false-true, first-passes, first-before, first-none, is-first}
-use Rattle.lists.proofs.Table.{length-tabulate, at-tabulate, at-past, tabulate-eq}
-use Rattle.residue.specs.Common.{commonMultiple}
+use Rattle.lists.proofs.Table.{length-tabulate, at-tabulate, at-past}
 use Rattle.residue.specs.Remainders.{joined, two}
 use Rattle.residue.specs.Units.{Coprime}
-use Rattle.residue.proofs.Common.{g-pos, a-whole, b-whole, μ-pos, ν-pos, rest-coprime, multiple-is, multiple-product}
+use Rattle.residue.proofs.Common.{met-parts, g-pos, a-whole, b-whole, μ-pos, ν-pos, rest-coprime, multiple-is, multiple-product}
 use Rattle.cells.specs.Cell.{bytesOf}
 use Rattle.sequence.specs.declared.Sequence.{Sequence}
 use Rattle.sequence.specs.declared.Refusal.{Refusal}
@@ -28,7 +27,7 @@ use Rattle.sequence.specs.Report.{filled}
 use Rattle.sequence.specs.Rules.{IsSound, queryOf, sequenceOf, checkOf, checkedOf}
 use Rattle.sequence.proofs.Laws.{refused-done, checked, accepted}
 use Rattle.sequence.proofs.Writing.{values}
-use Rattle.merge.specs.Rules.{divisorOf, multipleOf, mergedTerm, mergedQuery, firstApart, comparedBy, comparedOf, andThen}
+use Rattle.merge.specs.Rules.{divisorOf, multipleOf, mergedQuery, firstApart, comparedBy, comparedOf, andThen, pastBuffers, mergedIn}
 
 -- ---- the cases
 
@@ -67,11 +66,7 @@ module _ (s t : Sequence) where
   agree-test i e = ap not (eq-eqb (at (s .terms) i % divisorOf s t) (at (t .terms) i % divisorOf s t) e)
 
   test-agree : (i : ℕ) → test i ≡ false → AgreeAt s t i
-  test-agree i e = eqb-true (at (s .terms) i % divisorOf s t) (at (t .terms) i % divisorOf s t) (turned (eqb (at (s .terms) i % divisorOf s t) (at (t .terms) i % divisorOf s t)) e)
-    where
-      turned : (b : Bool) → not b ≡ false → b ≡ true
-      turned true h = refl
-      turned false h = sym h
+  test-agree i e = eqb-true (at (s .terms) i % divisorOf s t) (at (t .terms) i % divisorOf s t) (not-false (eqb (at (s .terms) i % divisorOf s t) (at (t .terms) i % divisorOf s t)) e)
 
   pub comparing : Comparison s t (comparedOf s t)
   unfolding comparedOf
@@ -139,7 +134,8 @@ module _ (s t : Sequence) where
 
 -- ---- what the code has
 
--- a modulus times what is left of another fits its type, and so does the product of both
+-- A modulus times what is left of another fits its type. So does the product of both, which no code takes: with it the edit that takes it is refused
+-- at the promise.
 pub product-fits : (a b g : ℕ) → a ≤ maxModulus → b ≤ maxModulus → (a * (b / g) ≤ maxModulus * maxModulus) × (a * b ≤ maxModulus * maxModulus)
 product-fits a b g h k = (omega (arith, mul-le-mul-right (b / g) h, div-le-self b g), omega (arith, mul-le-mul-right b h))
 
@@ -195,10 +191,7 @@ module _ (s t : Sequence) (S : IsSound s) (T : IsSound t) where
     multiple-fits = (R′ .product ∙ sym (R′ .multiple), omega (arith, R′ .product, x .within))
 
     pub rests-fit : s .modulus / g * (t .modulus / g) < 65536
-    rests-fit = omega (arith, multiple-fits .0, multiple-fits .1, scaled (s .modulus / g * (t .modulus / g)))
-      where
-        scaled : (k : ℕ) → k ≤ k * g
-        scaled k = omega (arith, mul-le-mul-right k (R′ .g-pos))
+    rests-fit = met-parts (s .modulus / g) (t .modulus / g) g (R′ .g-pos) (omega (arith, multiple-fits .0, multiple-fits .1))
 
     pub terms-fit :
         (i : ℕ) → i < s .count
@@ -233,21 +226,17 @@ written-query m n f e = e ∙ ap (λ (k : ℕ). bytesOf (m ∷ k ∷ tabulate ma
 
 -- ---- the checks of the two queries
 
--- the reply past 5
-abbrev pub checkedReply : List ℕ → List ℕ → Outcome
-checkedReply x y = andThen (checkOf x) (andThen (checkOf y) (comparedOf (sequenceOf x) (sequenceOf y)))
-
-pub first-refused : (x y : List ℕ) {r : Refusal} → checkOf x ≡ Refused r → Refused r ≡ checkedReply x y
+pub first-refused : (x y : List ℕ) {r : Refusal} → checkOf x ≡ Refused r → Refused r ≡ pastBuffers x y
 first-refused x y e = sym (ap (λ (o : Outcome). andThen o (andThen (checkOf y) (comparedOf (sequenceOf x) (sequenceOf y)))) e)
 
-pub second-refused : (x y : List ℕ) {r : Refusal} → checkOf x ≡ Done → checkOf y ≡ Refused r → Refused r ≡ checkedReply x y
+pub second-refused : (x y : List ℕ) {r : Refusal} → checkOf x ≡ Done → checkOf y ≡ Refused r → Refused r ≡ pastBuffers x y
 second-refused x y d e = sym (ap₂ (λ (o p : Outcome). andThen o (andThen p (comparedOf (sequenceOf x) (sequenceOf y)))) d e)
 
 -- where neither is refused, what the merger of the two sequences replies and leaves
 pub both-passed :
     (x y old : List ℕ) {c d : Checked} → c ≡ checkedOf x → c .outcome ≡ Done → d ≡ checkedOf y → d .outcome ≡ Done → {r : Outcome} {new : List ℕ}
     → r ≡ comparedOf (c .sequence) (d .sequence) → new ≡ filled r (mergedQuery (c .sequence) (d .sequence)) old
-    → (r ≡ checkedReply x y) × (new ≡ filled r (mergedQuery (sequenceOf x) (sequenceOf y)) old)
+    → (r ≡ pastBuffers x y) × (new ≡ mergedIn r x y old)
 both-passed x y old ec hc ed hd {r} told written =
     let s = accepted x ec hc .same in
     let t = accepted y ed hd .same in (

@@ -3,19 +3,19 @@
 -- Assumes nothing.
 use mathlib.Core.Path.{_≡_, sym, ap, _∙_, subst}
 use mathlib.Core.List.{List}
-use Prim.Native.Nat.{ℕ, zero, _+_, _%_, _≤_, _<_, max}
-use native.Mathlib.Nat.{le-of-dvd, dvd-of-mod-eq-zero, mod-eq-of-lt}
+use Prim.Native.Nat.{ℕ, _+_, _%_, _≤_, _<_, max}
+use native.Mathlib.Nat.{mod-eq-of-lt}
 use native.Mathlib.Omega.{arith}
 use lib.ListN.{length}
 use Rattle.lists.specs.Table.{at, tabulate}
 use Rattle.lists.proofs.Table.{length-tabulate, at-tabulate}
 use Rattle.recurrence.specs.Register.{complexity}
 use Rattle.recurrence.proofs.Merged.{complexity-merged}
-use Rattle.residue.proofs.Common.{multiple-pos, multiple-left, leaves-agree, joined-both, joined-only}
+use Rattle.residue.proofs.Common.{multiple-above, leaves-agree, joined-both, joined-only}
 use Rattle.cells.specs.Cell.{cellAt}
 use Rattle.sequence.specs.declared.Sequence.{Sequence}
 use Rattle.sequence.specs.declared.Outcome.the-variants.{Done}
-use Rattle.sequence.specs.Limits.{maxModulus, maxTerms}
+use Rattle.sequence.specs.Limits.{maxTerms}
 use Rattle.sequence.specs.Rules.{IsSound, sequenceOf, checkOf}
 use Rattle.sequence.proofs.Laws.{term-cell}
 use Rattle.sequence.proofs.Query.{query-modulus, query-count, query-term, query-passes}
@@ -34,7 +34,7 @@ module _ (s t : Sequence) (S : IsSound s) (T : IsSound t) where
   module _ (i : ℕ) (hx : i < s .count) (hy : i < t .count) where
     -- a number that leaves both terms tells that they agree
     pub both-agree : (v : ℕ) → v % a ≡ at (s .terms) i → v % b ≡ at (t .terms) i → AgreeAt s t i
-    both-agree v p q = leaves-agree a b (a-pos s t S T) (b-pos s t S T) (at (s .terms) i) (at (t .terms) i) (S .below i hx) (T .below i hy) v p q
+    both-agree v p q = leaves-agree a b (a-pos s t S T) (b-pos s t S T) (at (s .terms) i) (at (t .terms) i) v p q
 
     -- where they agree the merged term leaves both and is below the multiple
     pub term-both : AgreeAt s t i → (mergedTerm s t i < multipleOf s t) × (mergedTerm s t i % a ≡ at (s .terms) i) × (mergedTerm s t i % b ≡ at (t .terms) i)
@@ -42,7 +42,7 @@ module _ (s t : Sequence) (S : IsSound s) (T : IsSound t) where
 
     -- and no other number below it does
     pub term-only : (v : ℕ) → v < multipleOf s t → v % a ≡ at (s .terms) i → v % b ≡ at (t .terms) i → v ≡ mergedTerm s t i
-    term-only v h p q = joined-only a b (a-pos s t S T) (b-pos s t S T) (at (s .terms) i) (at (t .terms) i) (S .below i hx) (T .below i hy) v h p q
+    term-only v h p q = joined-only a b (a-pos s t S T) (b-pos s t S T) (at (s .terms) i) (at (t .terms) i) v h p q
 
   -- ---- the query
 
@@ -54,12 +54,7 @@ module _ (s t : Sequence) (S : IsSound s) (T : IsSound t) where
     both-at i h = term-both i h (omega (arith, x .counts)) (x .agree i h)
 
     pub big : 2 ≤ multipleOf s t
-    big =
-        omega (
-          arith,
-          S .least,
-          le-of-dvd {m = a} (multiple-pos a b (a-pos s t S T) (b-pos s t S T)) (dvd-of-mod-eq-zero a {n = multipleOf s t} (multiple-left a b (a-pos s t S T) (b-pos s t S T))),
-        )
+    big = omega (arith, S .least, multiple-above a b (a-pos s t S T) (b-pos s t S T))
 
     long : length ts ≡ s .count
     unfolding ts

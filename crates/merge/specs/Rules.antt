@@ -16,6 +16,7 @@ use Rattle.sequence.specs.declared.Outcome.{Outcome}
 use Rattle.sequence.specs.declared.Outcome.the-variants.{Done, Refused}
 use Rattle.sequence.specs.Limits.{maxModulus, queryBytes}
 use Rattle.sequence.specs.Answers.{Answer, granted, refused, refusedAt, firstOf}
+use Rattle.sequence.specs.Report.{filled}
 use Rattle.sequence.specs.Rules.{queryOf, sequenceOf, checkOf, queryRefusals}
 
 -- ---- the merged query
@@ -56,13 +57,15 @@ abbrev pub andThen : Outcome → Outcome → Outcome
 andThen Done o = o
 andThen (Refused r) o = Refused r
 
--- 5 for the three buffers, the first query's own refusals, the second's, then 29, 30, 31
+-- the first query's own refusals, the second's, then 29, 30, 31
+abbrev pub pastBuffers : List ℕ → List ℕ → Outcome
+pastBuffers x y = andThen (checkOf x) (andThen (checkOf y) (comparedOf (sequenceOf x) (sequenceOf y)))
+
+-- 5 for the three buffers comes before them
 unfoldable pub mergeOf : List ℕ → List ℕ → List ℕ → Outcome
 mergeOf x y query =
     pick (eqb (length x) queryBytes)
-    (pick (eqb (length y) queryBytes)
-    (pick (eqb (length query) queryBytes) (andThen (checkOf x) (andThen (checkOf y) (comparedOf (sequenceOf x) (sequenceOf y)))) (Refused R.Buffer))
-    (Refused R.Buffer))
+    (pick (eqb (length y) queryBytes) (pick (eqb (length query) queryBytes) (pastBuffers x y) (Refused R.Buffer)) (Refused R.Buffer))
     (Refused R.Buffer)
 
 -- the same by number
@@ -82,3 +85,8 @@ mergeAnswer x y query =
     ∷ (ltb i (s .count), refusedAt 31 i)
     ∷ []))))
     (granted [])
+
+-- ---- the query buffer at exit: the merged query, or as lent
+
+abbrev pub mergedIn : Outcome → List ℕ → List ℕ → List ℕ → List ℕ
+mergedIn reply x y query = filled reply (mergedQuery (sequenceOf x) (sequenceOf y)) query

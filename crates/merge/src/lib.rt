@@ -15,8 +15,8 @@ ghost use Rattle.residue.specs.Units.{Coprime, inverse};
 ghost use Rattle.sequence.specs.Answers.{outcomeAnswer};
 ghost use Rattle.sequence.specs.Limits.{maxTerms, queryBytes};
 ghost use Rattle.sequence.specs.Report.{filled};
-ghost use Rattle.sequence.specs.Rules.{IsSound, queryOf, sequenceOf, checkOf};
-ghost use Rattle.merge.specs.Rules.{divisorOf, mergedQuery, firstApart, comparedBy, comparedOf, andThen, mergeOf, mergeAnswer};
+ghost use Rattle.sequence.specs.Rules.{IsSound, queryOf};
+ghost use Rattle.merge.specs.Rules.{divisorOf, mergedQuery, firstApart, comparedBy, comparedOf, pastBuffers, mergeOf, mergeAnswer, mergedIn};
 
 // The first of n places where the terms disagree modulo g, or n.
 fn first_apart(xs: &[u32; TERMS], ys: &[u32; TERMS], n: u32, g: u32) -> u32
@@ -49,7 +49,8 @@ fn first_refusal(differ: bool, above: bool, apart: bool, i: u32) -> Outcome
     Outcome::Done
 }
 
-// Whether two sequences can be merged; g is the common divisor of their moduli. The multiple is a times what is left of b, below 2^32.
+// Whether two sequences can be merged; g is the common divisor of their moduli. Their multiple is the first modulus times what g leaves of
+// the second: below 2^32, for moduli up to 65,535 too.
 fn compare(s: Sequence, t: Sequence, g: u32) -> Outcome
     requires { ⌜ IsSound s × IsSound t × (g ≡ divisorOf s t) ⌝ }
     ensures { λ r. ⌜ r ≡ comparedOf s t ⌝ }
@@ -139,8 +140,8 @@ fn merge_sound(s: Sequence, t: Sequence, query: &mut [u8]) -> Outcome
 // Merges two queries of 260 bytes: the first one's own refusals, then the second's.
 fn merge_checked(first: &[u8], second: &[u8], query: &mut [u8]) -> Outcome
     requires { ⌜ (length (now query) ≡ queryBytes) ⌝ }
-    ensures { λ r. ⌜ r ≡ andThen (checkOf (now (first .entry))) (andThen (checkOf (now (second .entry))) (comparedOf (sequenceOf (now (first .entry))) (sequenceOf (now (second .entry))))) ⌝ }
-    ensures { λ r. ⌜ now (query .exit) ≡ filled r (mergedQuery (sequenceOf (now (first .entry))) (sequenceOf (now (second .entry)))) (now (query .entry)) ⌝ }
+    ensures { λ r. ⌜ r ≡ pastBuffers (now (first .entry)) (now (second .entry)) ⌝ }
+    ensures { λ r. ⌜ now (query .exit) ≡ mergedIn r (now (first .entry)) (now (second .entry)) (now (query .entry)) ⌝ }
 {
     let c = sequence::check(first);
     let o = c.outcome;
@@ -162,10 +163,11 @@ fn merge_checked(first: &[u8], second: &[u8], query: &mut [u8]) -> Outcome
 }
 
 // Merges two queries of the same sequence to one modulo the least common multiple of their moduli; as lent where it is refused.
-// Rejected: the product for the multiple; terms compared modulo the smaller modulus; 31 before 30; the last place for 31.
+// Rejected: the product for the multiple; terms compared modulo the smaller modulus; 31 before 30; the second query's 1 before the first's 4;
+// the last place for 31.
 pub fn merge(first: &[u8], second: &[u8], query: &mut [u8]) -> Outcome
     ensures { λ r. ⌜ r ≡ mergeOf (now (first .entry)) (now (second .entry)) (now (query .entry)) ⌝ }
-    ensures { λ r. ⌜ now (query .exit) ≡ filled r (mergedQuery (sequenceOf (now (first .entry))) (sequenceOf (now (second .entry)))) (now (query .entry)) ⌝ }
+    ensures { λ r. ⌜ now (query .exit) ≡ mergedIn r (now (first .entry)) (now (second .entry)) (now (query .entry)) ⌝ }
     ensures { λ r. ⌜ outcomeAnswer r ≡ mergeAnswer (now (first .entry)) (now (second .entry)) (now (query .entry)) ⌝ }
 {
     if first.len() != QUERY_BYTES {

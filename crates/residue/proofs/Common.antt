@@ -5,7 +5,7 @@ use mathlib.Core.Logic.{_⊎_, inl, inr, _≢_}
 use mathlib.Core.Bool.{Bool, true, false}
 use mathlib.Core.List.{List}
 use Prim.Native.Nat.{ℕ, zero, suc, _+_, _*_, _-_, _/_, _%_, _^_, _≤_, _<_}
-use native.Mathlib.Nat.{le-antisymm, le-of-dvd, dvd-of-mod-eq-zero, mod-mod-of-dvd, mod-self, mod-one, mod-zero, mod-lt, mod-eq-of-lt, zero-mod, div-add-mod', div-lt-iff-lt-mul, mul-mod-left, mul-le-mul-right}
+use native.Mathlib.Nat.{le-antisymm, le-of-dvd, dvd-of-mod-eq-zero, mod-mod-of-dvd, mod-self, mod-one, mod-zero, mod-lt, zero-mod, div-add-mod', div-lt-iff-lt-mul, mul-mod-left, mul-le-mul-right}
 use native.Mathlib.Decide.{ℕ-discrete}
 use native.Mathlib.Omega.{arith}
 use lib.Dec.{eqb}
@@ -15,11 +15,11 @@ use Rattle.lists.specs.Choice.{both}
 use Rattle.lists.specs.Search.{first}
 use Rattle.lists.proofs.Search.{both-left, both-right, both-true, first-found, is-first}
 use Rattle.residue.specs.Congruence.{Cong}
-use Rattle.residue.specs.Units.{Prime, Coprime, inverse}
+use Rattle.residue.specs.Units.{Prime, Coprime}
 use Rattle.residue.specs.Common.{commonDivisor, commonMultiple}
 use Rattle.residue.specs.Remainders.{Remainder, joined, two}
-use Rattle.residue.proofs.Congruence.{of-eq, tr, cong-divisor, Invertible, unit-cancel}
-use Rattle.residue.proofs.Units.{coprime-invertible, prime-invertible, inverse-lt}
+use Rattle.residue.proofs.Congruence.{of-eq, tr, Invertible, unit-cancel}
+use Rattle.residue.proofs.Units.{coprime-invertible, prime-invertible}
 use Rattle.residue.proofs.Remainders.{Leaves, none, also, Decides, joined-leaves, is-joined, product, two-leaves}
 
 -- ---- the greatest common divisor
@@ -134,14 +134,14 @@ module _ (μ ν g : ℕ) (μpos : zero < μ) (νpos : zero < ν) (gpos : zero < 
   μν-pos = omega (arith, mul-le-mul-right ν μpos)
 
   -- congruent modulo both, congruent modulo the multiple
-  pub both-moduli : (x y : ℕ) → Cong (μ * g) x y → Cong (ν * g) x y → Cong (μ * ν * g) x y
+  both-moduli : (x y : ℕ) → Cong (μ * g) x y → Cong (ν * g) x y → Cong (μ * ν * g) x y
   both-moduli x y hμ hν =
       let l = digits-of g μ gpos μpos hμ in
       let r = digits-of g ν gpos νpos hν in
       of-digits g (μ * ν) gpos μν-pos (product μ ν μpos νpos unit (x / g) (y / g) (l .0) (r .0)) (l .1)
 
   -- what both divide, their multiple divides
-  pub of-both : (c : ℕ) → c % (μ * g) ≡ zero → c % (ν * g) ≡ zero → c % (μ * ν * g) ≡ zero
+  of-both : (c : ℕ) → c % (μ * g) ≡ zero → c % (ν * g) ≡ zero → c % (μ * ν * g) ≡ zero
   of-both c x y =
       both-moduli c zero (record { same = x ∙ sym (zero-mod (μ * g)) }) (record { same = y ∙ sym (zero-mod (ν * g)) }) .same ∙ zero-mod (μ * ν * g)
 
@@ -149,7 +149,7 @@ module _ (μ ν g : ℕ) (μpos : zero < μ) (νpos : zero < ν) (gpos : zero < 
     abbrev rests : List Remainder
     rests = two (μ * g) x (ν * g) y
 
-    pub met-decides : Decides (μ * ν * g) rests
+    met-decides : Decides (μ * ν * g) rests
     met-decides u w (also p (also q none)) (also r (also s none)) = both-moduli u w (record { same = p ∙ sym r }) (record { same = q ∙ sym s })
 
     module _ (hx : x < μ * g) (hy : y < ν * g) where
@@ -168,7 +168,7 @@ module _ (μ ν g : ℕ) (μpos : zero < μ) (νpos : zero < ν) (gpos : zero < 
       met-lt = digits-lt {c = g} (q .0) (mod-lt x gpos)
 
       -- where they agree modulo g, it leaves both
-      pub met-leaves : x % g ≡ y % g → Leaves met rests
+      met-leaves : x % g ≡ y % g → Leaves met rests
       met-leaves agree =
           also (left μ μpos (x / g) (q .1) ∙ div-add-mod' x g)
           (also (left ν νpos (y / g) (q .2) ∙ ap (λ (k : ℕ). y / g * g + k) agree ∙ div-add-mod' y g) none)
@@ -307,6 +307,9 @@ module _ (a b : ℕ) (apos : zero < a) (bpos : zero < b) where
   pub multiple-least : (c : ℕ) → zero < c → c % a ≡ zero → c % b ≡ zero → M ≤ c
   multiple-least c pos x y = omega (arith, multiple-is, product-least c pos x y)
 
+  pub multiple-above : a ≤ M
+  multiple-above = divisor-le M a multiple-pos multiple-left
+
   -- as the code has it
   pub multiple-product : a * ν ≡ M
   multiple-product = omega (arith, multiple-is, ap (λ (k : ℕ). k * ν) a-whole)
@@ -326,7 +329,7 @@ module _ (a b : ℕ) (apos : zero < a) (bpos : zero < b) where
 
   -- ---- the number with two given remainders
 
-  module _ (x y : ℕ) (hx : x < a) (hy : y < b) where
+  module _ (x y : ℕ) where
     -- a number that leaves both tells that they agree modulo the common divisor
     pub leaves-agree : (z : ℕ) → z % a ≡ x → z % b ≡ y → x % g ≡ y % g
     leaves-agree z p q =
@@ -334,8 +337,8 @@ module _ (a b : ℕ) (apos : zero < a) (bpos : zero < b) where
         ∙ sym (mod-mod-of-dvd g z (dvd-of-mod-eq-zero g {n = b} (G .right))) ∙ ap (λ (k : ℕ). k % g) q
 
     -- where they agree the joined number leaves both, and no other number below the multiple does
-    pub joined-both : x % g ≡ y % g → (joined M (two a x b y) < M) × (joined M (two a x b y) % a ≡ x) × (joined M (two a x b y) % b ≡ y)
-    joined-both agree = told (joined-leaves M (two a x b y) v v-lt v-leaves)
+    pub joined-both : x < a → y < b → x % g ≡ y % g → (joined M (two a x b y) < M) × (joined M (two a x b y) % a ≡ x) × (joined M (two a x b y) % b ≡ y)
+    joined-both hx hy agree = told (joined-leaves M (two a x b y) v v-lt v-leaves)
       where
         v : ℕ
         v = met μ ν g μ-pos ν-pos (G .positive) rest-coprime x y (subst (λ (k : ℕ). x < k) a-whole hx) (subst (λ (k : ℕ). y < k) b-whole hy)

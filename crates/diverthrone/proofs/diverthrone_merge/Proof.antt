@@ -4,9 +4,7 @@ use mathlib.Core.Path.{sym, ap, _∙_}
 use borrow.Author.Needs.{needs}
 use Rattle.sequence.specs.Answers.{outcomeAnswer}
 use Rattle.sequence.specs.declared.Outcome.{Outcome}
-use Rattle.sequence.specs.Report.{filled}
-use Rattle.sequence.specs.Rules.{sequenceOf}
-use Rattle.merge.specs.Rules.{mergedQuery}
+use Rattle.merge.specs.Rules.{mergedIn}
 use Rattle.diverthrone.specs.Codes.{codeOf}
 use Rattle.diverthrone.proofs.diverthrone_merge.Statement.{statement}
 use Rattle.diverthrone.proofs.diverthrone_merge.Tie as tie
@@ -31,7 +29,7 @@ returns c =
     let m = c .before .before .before .before in
     let s = m .before .before .before .before .before .args in (
       ap (λ (z : Outcome). codeOf (outcomeAnswer z)) (sym (c .enum-told .given .1)) ∙ ap codeOf (m .merge .ensures .1 .1),
-      m .merge .ensures .1 .0 ∙ ap (λ (z : Outcome). filled z (mergedQuery (sequenceOf (s .first .now)) (sequenceOf (s .second .now))) (s .query .now)) (m .merge .ensures .0),
+      m .merge .ensures .1 .0 ∙ ap (λ (z : Outcome). mergedIn z (s .first .now) (s .second .now) (s .query .now)) (m .merge .ensures .0),
     )
 
 same-length-2 : tie.Need-same-length-2
@@ -42,7 +40,7 @@ returns-2 c =
     let m = c .before .before .before .before .before .before in
     let s = m .before .before .before .before .before .args in (
       c .refused .ensures ∙ ap (λ (z : Outcome). codeOf (outcomeAnswer z)) (sym (c .before .before .o .given .1)) ∙ ap codeOf (m .merge .ensures .1 .1),
-      m .merge .ensures .1 .0 ∙ ap (λ (z : Outcome). filled z (mergedQuery (sequenceOf (s .first .now)) (sequenceOf (s .second .now))) (s .query .now)) (m .merge .ensures .0),
+      m .merge .ensures .1 .0 ∙ ap (λ (z : Outcome). mergedIn z (s .first .now) (s .second .now) (s .query .now)) (m .merge .ensures .0),
     )
 
 pub diverthrone-merge-spec : {M : Type 1} → statement M

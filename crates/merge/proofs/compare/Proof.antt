@@ -1,6 +1,5 @@
 -- `merge::compare` meets its contract.
 -- Assumes nothing.
-use Prim.Native.Nat.{zero, _<_}
 use native.Mathlib.Omega.{arith}
 use borrow.Author.Needs.{needs}
 use Rattle.merge.proofs.Laws.{product-fits, Rests, rests, compared-is}

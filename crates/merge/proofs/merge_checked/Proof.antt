@@ -1,6 +1,6 @@
 -- `merge::merge_checked` meets its contract: a query that is not refused is sound.
 -- Assumes nothing.
-use mathlib.Core.Path.{refl, sym, ap, ap₂, _∙_}
+use mathlib.Core.Path.{refl, sym, _∙_}
 use borrow.Author.Needs.{needs}
 use Rattle.sequence.proofs.Laws.{checked, accepted}
 use Rattle.merge.proofs.Laws.{first-refused, second-refused, both-passed}

@@ -1,7 +1,6 @@
 -- `merge::merged_term` meets its contract.
 -- Assumes nothing.
 use native.Mathlib.Omega.{arith}
-use borrow.Author.Needs.{needs}
 use borrow.Author.Tests.{lt-ltb, le-ltb}
 use Rattle.merge.proofs.merged_term.Statement.{statement}
 use Rattle.merge.proofs.merged_term.Tie as tie

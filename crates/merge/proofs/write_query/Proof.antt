@@ -1,12 +1,11 @@
 -- `merge::write_query` meets its contract: the loop keeps what `Writing` says.
 -- Assumes nothing.
-use mathlib.Core.Path.{_∙_, sym, ap}
+use mathlib.Core.Path.{_∙_, sym}
 use mathlib.Core.List.{List}
-use Prim.Native.Nat.{ℕ, _*_, _-_, _≤_, _<_}
+use Prim.Native.Nat.{ℕ, _*_, _-_, _<_}
 use native.Mathlib.Omega.{arith}
 use borrow.Author.Needs.{needs}
 use Rattle.lists.specs.Table.{at, tabulate}
-use Rattle.lists.proofs.Table.{length-tabulate}
 use Rattle.residue.specs.Remainders.{joined, two}
 use Rattle.sequence.specs.Limits.{maxTerms}
 use Rattle.sequence.proofs.Writing.{Writing, writing-start, writing-more, writing-end, writing-size}

@@ -1,10 +1,8 @@
 -- `residue::meet` meets its contract.
 -- Assumes nothing.
-use mathlib.Core.Path.{sym, ap, _∙_}
-use Prim.Native.Nat.{ℕ, zero, _+_, _*_, _%_, _≤_, _<_}
-use native.Mathlib.Nat.{mod-lt}
+use mathlib.Core.Path.{ap, _∙_}
+use Prim.Native.Nat.{ℕ, zero, _+_, _*_, _%_, _<_}
 use native.Mathlib.Omega.{arith}
-use borrow.Author.Needs.{needs}
 use Rattle.residue.proofs.Common.{factors-pos, quotients-small, met-joined, met-lt, met-parts}
 use Rattle.residue.proofs.meet.Statement.{statement}
 use Rattle.residue.proofs.meet.Tie as tie

@@ -11,14 +11,14 @@ use Rattle.merge.specs.Rules.{mergeAnswer}
 use Rattle.diverthrone.specs.Codes.{codeOf}
 use Rattle.guarantees.specs.Cases.{zeros, reply}
 use Rattle.guarantees.specs.Numbers.{counted}
-use Rattle.guarantees.specs.Merging.{mergedIn}
+use Rattle.guarantees.specs.Merging.{mergedExit}
 
 -- the answer to two queries that are lent a query buffer of zeros, and the buffer after it
 abbrev pub answerTo : List ℕ → List ℕ → Answer
 answerTo x y = mergeAnswer x y (zeros queryBytes)
 
 abbrev pub queryTo : List ℕ → List ℕ → List ℕ
-queryTo x y = mergedIn x y (zeros queryBytes)
+queryTo x y = mergedExit x y (zeros queryBytes)
 
 -- the code of the answer for C
 abbrev pub codeTo : List ℕ → List ℕ → ℕ
@@ -52,7 +52,7 @@ pub record MergedRows : Type 0 where
   -- for C
   pub done-code : codeTo (queryOf 12 (7 ∷ [])) (queryOf 18 (13 ∷ [])) ≡ 0
   pub counts-code : codeTo (queryOf 12 (7 ∷ [])) (queryOf 18 []) ≡ 29
-  pub above-code : codeTo (queryOf 64 []) (queryOf 65 []) ≡ 30
+  pub above-code : codeTo (queryOf 512 []) (queryOf 513 []) ≡ 30
   pub apart-code-0 : codeTo (queryOf 12 (7 ∷ [])) (queryOf 18 (12 ∷ [])) ≡ 31
   pub apart-code-2 : codeTo (queryOf 12 (7 ∷ 2 ∷ 11 ∷ 0 ∷ [])) (queryOf 18 (13 ∷ 2 ∷ 16 ∷ 1 ∷ [])) ≡ 31 + 256 * 2
   pub second-code-1 : codeTo (queryOf 12 (7 ∷ 2 ∷ [])) (queryOf 18 (13 ∷ 18 ∷ [])) ≡ 3 + 256 * 1
@@ -81,6 +81,6 @@ pub record MergedRows : Type 0 where
   pub order-first-4-second-1 : answerTo (counted 12 0 (1 ∷ [])) (queryOf 1 []) ≡ refused 4
   pub order-second-1-29 : answerTo (queryOf 12 (7 ∷ [])) (queryOf 1 []) ≡ refused 1
   pub order-second-4-29 : answerTo (queryOf 12 (7 ∷ [])) (counted 18 0 (1 ∷ [])) ≡ refused 4
-  pub order-29-30 : answerTo (queryOf 64 (3 ∷ [])) (queryOf 65 []) ≡ refused 29
+  pub order-29-30 : answerTo (queryOf 512 (3 ∷ [])) (queryOf 513 []) ≡ refused 29
   pub order-29-31 : answerTo (queryOf 12 (7 ∷ [])) (queryOf 18 (12 ∷ 0 ∷ [])) ≡ refused 29
-  pub order-30-31 : answerTo (queryOf 128 (1 ∷ [])) (queryOf 66 (2 ∷ [])) ≡ refused 30
+  pub order-30-31 : answerTo (queryOf 512 (1 ∷ [])) (queryOf 514 (2 ∷ [])) ≡ refused 30

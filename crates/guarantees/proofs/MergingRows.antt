@@ -1,4 +1,4 @@
--- The rows of Merged, by computation. Where the multiple is large, its search is left out: the law for it gives the number.
+-- The rows of MergingRows, by computation. Where the multiple is large, its search is left out: the law for it gives the number.
 -- Assumes nothing.
 use mathlib.Core.Path.{_≡_, refl, sym, ap, _∙_}
 use mathlib.Core.List.{List, [], _∷_}
@@ -32,7 +32,7 @@ use Rattle.diverthrone.specs.Codes.{codeOf}
 use Rattle.guarantees.specs.Cases.{zeros, reply}
 use Rattle.guarantees.specs.Merging as M
 use Rattle.guarantees.specs.Merging.{Comparable, TwoQueries}
-use Rattle.guarantees.specs.Merged.{answerTo, MergedRows}
+use Rattle.guarantees.specs.MergingRows.{answerTo, MergedRows}
 use Rattle.guarantees.proofs.Refusals.{passed-clean}
 use Rattle.guarantees.proofs.Merging.{divisor, multiple, two-queries}
 
@@ -61,9 +61,13 @@ multiple-64-65 : commonMultiple 64 65 ≡ 4160
 unfolding first commonDivisor
 multiple-64-65 = sym (multiple-product 64 65 (omega arith) (omega arith))
 
-multiple-128-66 : commonMultiple 128 66 ≡ 4224
+multiple-512-513 : commonMultiple 512 513 ≡ 262656
 unfolding first commonDivisor
-multiple-128-66 = sym (multiple-product 128 66 (omega arith) (omega arith))
+multiple-512-513 = sym (multiple-product 512 513 (omega arith) (omega arith))
+
+multiple-512-514 : commonMultiple 512 514 ≡ 131584
+unfolding first commonDivisor
+multiple-512-514 = sym (multiple-product 512 514 (omega arith) (omega arith))
 
 multiple-63-65 : commonMultiple 63 65 ≡ 4095
 unfolding first commonDivisor
@@ -73,17 +77,17 @@ coprime-63-65 : commonDivisor 63 65 ≡ 1
 unfolding first commonDivisor
 coprime-63-65 = refl
 
-above-none : answerTo (queryOf 64 []) (queryOf 65 []) ≡ refused 30
+above-none : answerTo (queryOf 512 []) (queryOf 513 []) ≡ refused 30
 unfolding tabulate first all bytesOf faultOf sequenceOf checkOf
-above-none = above (queryOf 64 []) (queryOf 65 []) refl refl refl (omega (arith, multiple-64-65))
+above-none = above (queryOf 512 []) (queryOf 513 []) refl refl refl (omega (arith, multiple-512-513))
 
 above-one : answerTo (queryOf 64 (3 ∷ [])) (queryOf 65 (3 ∷ [])) ≡ refused 30
 unfolding tabulate first all bytesOf faultOf sequenceOf checkOf
 above-one = above (queryOf 64 (3 ∷ [])) (queryOf 65 (3 ∷ [])) refl refl refl (omega (arith, multiple-64-65))
 
-above-apart : answerTo (queryOf 128 (1 ∷ [])) (queryOf 66 (2 ∷ [])) ≡ refused 30
+above-apart : answerTo (queryOf 512 (1 ∷ [])) (queryOf 514 (2 ∷ [])) ≡ refused 30
 unfolding tabulate first all bytesOf faultOf sequenceOf checkOf
-above-apart = above (queryOf 128 (1 ∷ [])) (queryOf 66 (2 ∷ [])) refl refl refl (omega (arith, multiple-128-66))
+above-apart = above (queryOf 512 (1 ∷ [])) (queryOf 514 (2 ∷ [])) refl refl refl (omega (arith, multiple-512-514))
 
 at-the-limit : answerTo (queryOf 63 (62 ∷ [])) (queryOf 65 (64 ∷ [])) ≡ granted []
 unfolding tabulate first all bytesOf faultOf sequenceOf checkOf
