@@ -42,7 +42,7 @@ pub record LeavesBoth (x y : List ℕ) (i v : ℕ) : Type 0 where
   pub first : v % cellAt x 0 ≡ cellAt x (2 + i)
   pub second : v % cellAt y 0 ≡ cellAt y (2 + i)
 
--- the terms at place i agree modulo g, or do not
+-- the terms at place i agree modulo g
 abbrev pub AgreeAt : List ℕ → List ℕ → ℕ → ℕ → Type 0
 AgreeAt x y g i = cellAt x (2 + i) % g ≡ cellAt y (2 + i) % g
 
@@ -138,5 +138,6 @@ pub record Merges (x y query : List ℕ) : Type 0 where
   pub kept : (mergeOf x y query ≡ Done → ⊥) → mergedExit x y query ≡ query
   pub merged : mergeOf x y query ≡ Done → IsMerged x y (mergedExit x y query)
 
+-- for any three buffers
 unfoldable pub TwoQueries : Type 0
 TwoQueries = (x y query : List ℕ) → Merges x y query
