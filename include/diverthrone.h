@@ -24,9 +24,9 @@
  *       0     none
  *       1     the modulus is below 2 or above 4,095
  *       2     the count of terms, or of cells to run, is above 128
- *       3     one of a query's terms is not below its modulus; the value is the place of the first of them
+ *       3     one of a query's terms is not below its modulus, or a digit of a period is above 1; the value is the place of the first of them
  *       4     a query holds something other than zero past its count
- *       5     a lent buffer has another length than stated, or the cells to run are an odd number of bytes
+ *       5     a lent buffer has another length than stated, or the cells to run or the cells of a period are an odd number of bytes
  *       6     a candidate has a coefficient not below m, or a nonzero one past its end (a past the length, b from the length on)
  *      23     the catalogue's length is not a multiple of 778
  *      24     the record found is malformed (as in 25, 6, 26) or does not pass the test against the query
@@ -39,6 +39,7 @@
  *      30     the least common multiple of the two moduli is above 4,095
  *      31     two terms at the same place disagree modulo the greatest common divisor of the moduli, so that no number leaves both; the value
  *             is the place of the first such pair
+ *      32     the number of cells lent as a period is none of 1, 2, 4, 8, 16, 32, 64
  *
  * Where several apply the first is given, in the order that each function states.
  *
@@ -109,6 +110,14 @@ uint64_t diverthrone_read_line(const uint8_t *line, size_t line_len, uint8_t *qu
 uint64_t diverthrone_merge(const uint8_t *first, size_t first_len, const uint8_t *second, size_t second_len, uint8_t *query,
                            size_t query_len);
 
+/* Finds the least length modulo 2 of a sequence that repeats a period. A period is 1, 2, 4, 8, 16, 32 or 64 digits, each 0 or 1, lent once as
+ * cells of two bytes, which are only read; it need not be the shortest one. 1,0,0,1,1,0,1,0 over and over has length 7.
+ * Value: the length itself, 0 to 64, not 1 + the length.
+ * It is the least length of two whole periods and of any more terms of the sequence, so the length in the record of such a query with the
+ * modulus 2. Terms fewer than two periods may have a smaller one: 1,0,1,0 has length 2, and 1,0 alone 1.
+ * Refusals in order: 5 (an odd number of bytes), 32, 3. The refusal 2 is not given: more than 128 cells get 32, as 0 and 128 do. */
+uint64_t diverthrone_period_length(const uint8_t *cells, size_t cells_len);
+
 static inline unsigned diverthrone_refusal(uint64_t reply) { return (unsigned)(reply % 256); }
 
 static inline uint64_t diverthrone_value(uint64_t reply) { return reply / 256; }
@@ -164,12 +173,17 @@ static inline uint64_t diverthrone_merge_null(const uint8_t *first, size_t first
                              diverthrone_out(query, query_len), query_len);
 }
 
+static inline uint64_t diverthrone_period_length_null(const uint8_t *cells, size_t cells_len) {
+    return diverthrone_period_length(diverthrone_in(cells, cells_len), cells_len);
+}
+
 #define diverthrone_synthesize diverthrone_synthesize_null
 #define diverthrone_look_up diverthrone_look_up_null
 #define diverthrone_verify diverthrone_verify_null
 #define diverthrone_generate diverthrone_generate_null
 #define diverthrone_read_line diverthrone_read_line_null
 #define diverthrone_merge diverthrone_merge_null
+#define diverthrone_period_length diverthrone_period_length_null
 
 #ifdef __cplusplus
 }

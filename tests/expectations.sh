@@ -10,13 +10,14 @@ output=$2
 [ "$output" != --store ] || output=$(dirname "$0")/../crates
 mkdir -p "$output/replay" "$output/listing" "$output/working" "$output/ask"
 
-# Lists of calls, candidates, catalogues, typed lines, merges: each operation and each refusal that it has.
+# Lists of calls, candidates, catalogues, typed lines, merges, periods: each operation and each refusal that it has.
 {
     "$reference" calls 11 700
     "$reference" candidates 12 1000
     "$reference" catalogues 14 300
     "$reference" linecalls 15 2000
     "$reference" merges 16 1500
+    "$reference" periods 17 600
 } >"$output/replay/stdin"
 "$reference" replay <"$output/replay/stdin" >"$output/replay/stdout"
 

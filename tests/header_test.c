@@ -30,6 +30,8 @@ static uint64_t read_line(uint8_t *const p[3], const size_t n[3]) { return diver
 
 static uint64_t merge(uint8_t *const p[3], const size_t n[3]) { return diverthrone_merge(p[0], n[0], p[1], n[1], p[2], n[2]); }
 
+static uint64_t period_length(uint8_t *const p[3], const size_t n[3]) { return diverthrone_period_length(p[0], n[0]); }
+
 /* By its address, as from a host's table of functions. */
 static uint64_t (*const address)(const uint8_t *, size_t, const uint8_t *, size_t, uint64_t, uint8_t *, size_t) = diverthrone_look_up;
 
@@ -49,6 +51,7 @@ static const struct call calls[] = {{"synthesize", synthesize, 2, 1, 0, 0},
                                     {"generate", generate, 3, 4, LENGTH, MODULUS},
                                     {"read_line", read_line, 2, 5, 0, 0},
                                     {"merge", merge, 3, 6, 0, 0},
+                                    {"period_length", period_length, 1, 7, 0, 0},
                                     {"look_up by its address", by_address, 3, 2, 0, 0}};
 
 static int checks, failures;

@@ -1,6 +1,6 @@
 /* The C interface from C: every refusal with its place and order, every verdict, found and made, what editors and visitors see, every byte
- * at every place of a typed line, merged queries, buffers of every wrong length, NULL for every slice, and that a refusal changes no byte.
- * Expected values are the scope's cases or follow from its words; guard bytes stand around every buffer. It is built as C++ too. */
+ * at every place of a typed line, merged queries, periods, buffers of every wrong length, NULL for every slice, and that a refusal changes no
+ * byte. Expected values are the scope's cases or follow from its words; guard bytes stand around every buffer. It is built as C++ too. */
 #include "diverthrone.h"
 
 #include <stdio.h>
@@ -138,6 +138,14 @@ static uint64_t merge(struct lent *one, struct lent *two, struct lent *query) {
     uint64_t reply = diverthrone_merge(given(one), one->len, given(two), two->len, given(query), query->len);
     check(unchanged(one) && unchanged(two), "merge leaves the two queries");
     check(guarded(query), "merge keeps to the query");
+    return reply;
+}
+
+static uint64_t period_length(struct lent *digits) {
+    called = "period_length";
+    keep(digits);
+    uint64_t reply = diverthrone_period_length(given(digits), digits->len);
+    check(unchanged(digits), "period_length leaves the cells and what is around them");
     return reply;
 }
 
@@ -1336,6 +1344,252 @@ static void merged_again(void) {
     check(look_up(&merged, &c, &r) == 256, "found at place 0");
 }
 
+/* ---- periods ---- */
+
+/* Periods are told as bits, the first digit lowest. */
+static unsigned digit(uint64_t bits, size_t i) { return (unsigned)(bits >> i & 1); }
+
+static void lend_period(uint64_t bits, unsigned n) {
+    lend(&cells, 2 * n, 0);
+    for (unsigned i = 0; i < n; i++) put(start(&cells), i, digit(bits, i));
+}
+
+/* What a failure needs to be found again is put together only for one, since the checks are very many. */
+static void check_length(int ok, uint64_t bits, unsigned n, unsigned length, const char *by) {
+    char what[96] = "";
+    if (!ok) snprintf(what, sizeof what, "%u digits with the bits %llx have length %u, %s", n, (unsigned long long)bits, length, by);
+    check(ok, what);
+}
+
+/* The whole reply is compared: the value is the length itself. */
+static void has_length(uint64_t bits, unsigned n, unsigned length) {
+    lend_period(bits, n);
+    check_length(period_length(&cells) == 256 * (uint64_t)length, bits, n, length, "by the call");
+}
+
+/* The length in the record of the sequence's first k terms. */
+static unsigned length_in_record(uint64_t bits, unsigned n, unsigned k) {
+    unsigned terms[128];
+    for (unsigned i = 0; i < k; i++) terms[i] = digit(bits, i % n);
+    make_query(&q, 2, terms, k);
+    lend(&r, RECORD, 0x5A);
+    check(synthesize(&q, &r) == 0, "a record of a period's terms");
+    return length_in(&r);
+}
+
+/* The length by the call and in the record of two periods. */
+static void both_have_length(uint64_t bits, unsigned n, unsigned length) {
+    has_length(bits, n, length);
+    check_length(length_in_record(bits, n, 2 * n) == length, bits, n, length, "in a record");
+}
+
+/* Whether two whole periods have a register of this length: every list of coefficients is tried. */
+static int generated(uint64_t bits, unsigned n, unsigned l) {
+    for (unsigned list = 0; list < 1u << l; list++) {
+        unsigned sum = 0;
+        for (unsigned place = l; place < 2 * n && sum == 0; place++) {
+            sum = digit(bits, place % n);
+            for (unsigned i = 1; i <= l; i++) sum ^= list >> (i - 1) & digit(bits, (place - i) % n);
+        }
+        if (sum == 0) return 1;
+    }
+    return 0;
+}
+
+static unsigned least_by_trying(uint64_t bits, unsigned n) {
+    unsigned l = 0;
+    while (!generated(bits, n, l)) l++;
+    return l;
+}
+
+/* The least l for which the sequence from its place l on is a sum of those from 0 .. l - 1 on, as a register of length l says. What is left
+ * of each of them stands where its first 1 is. */
+static unsigned least_by_elimination(uint64_t bits, unsigned n) {
+    uint64_t firsts[64] = {0};
+    for (unsigned l = 0;; l++) {
+        uint64_t left = bits;
+        unsigned i = 0;
+        for (; left != 0; i++) {
+            if (digit(left, i) == 0) continue;
+            if (firsts[i] == 0) break;
+            left ^= firsts[i];
+        }
+        if (left == 0) return l;
+        firsts[i] = left;
+        bits = bits >> 1 | (bits & 1) << (n - 1);
+    }
+}
+
+static void periods_by_hand(void) {
+    static const struct {
+        const char *digits;
+        unsigned length;
+    } periods[] = {{"0", 0},        {"1", 1},        {"00", 0},       {"11", 1},       {"01", 2},       {"10", 2},       {"0000", 0},
+                   {"1111", 1},     {"0101", 2},     {"1100", 3},     {"0110", 3},     {"0001", 4},     {"1101", 4},     {"10011010", 7},
+                   {"00000000", 0}, {"11111111", 1}, {"10101010", 2}, {"00110011", 3}, {"01000100", 4}, {"00001111", 5}, {"01011010", 5},
+                   {"10100000", 6}, {"00000011", 7}, {"10010000", 7}, {"00000001", 8}, {"10000000", 8}, {"01111111", 8}};
+    for (size_t i = 0; i < sizeof periods / sizeof *periods; i++) {
+        uint64_t bits = 0;
+        unsigned n = (unsigned)strlen(periods[i].digits);
+        for (unsigned j = 0; j < n; j++) bits |= (uint64_t)(periods[i].digits[j] == '1') << j;
+        has_length(bits, n, periods[i].length);
+    }
+    for (unsigned n = 1; n <= 64; n *= 2) {
+        uint64_t ones = UINT64_MAX >> (64 - n);
+        has_length(0, n, 0), has_length(ones, n, 1);
+        for (unsigned i = 0; i < n; i++) has_length((uint64_t)1 << i, n, n);
+        if (n > 1) has_length(ones >> n / 2, n, n / 2 + 1), has_length(ones / 3, n, 2);
+    }
+}
+
+/* Every period of up to 8 digits, lent once and more than once; the records of two periods and of more terms. */
+static void short_periods(void) {
+    for (unsigned n = 1; n <= 8; n *= 2)
+        for (uint64_t bits = 0; bits < (uint64_t)1 << n; bits++) {
+            unsigned least = least_by_trying(bits, n);
+            uint64_t repeated = bits;
+            check_length(least_by_elimination(bits, n) == least, bits, n, least, "by elimination");
+            for (unsigned k = n; k <= 64; repeated |= repeated << k % 64, k *= 2) has_length(repeated, k, least);
+            const unsigned counts[] = {2 * n, 2 * n + 1, 3 * n, 128};
+            for (size_t i = 0; i < 4; i++) check_length(length_in_record(bits, n, counts[i]) == least, bits, n, least, "in a record");
+        }
+}
+
+/* Every period of 16 digits, one in 61 with the record of two. */
+static void periods_of_16(void) {
+    for (uint64_t bits = 0; bits < 65536; bits++) {
+        unsigned least = least_by_elimination(bits, 16);
+        if (bits % 61 == 0)
+            both_have_length(bits, 16, least);
+        else
+            has_length(bits, 16, least);
+    }
+}
+
+/* Up to 4 digits, for every number of terms: below two periods the length is never larger, and from there on the same. */
+static void fewer_terms(void) {
+    for (unsigned n = 1; n <= 4; n *= 2)
+        for (uint64_t bits = 0; bits < (uint64_t)1 << n; bits++) {
+            unsigned least = least_by_trying(bits, n);
+            for (unsigned k = 0; k <= 24; k++) {
+                unsigned length = length_in_record(bits, n, k);
+                check(k < 2 * n ? length <= least : length == least, "some terms of a period");
+            }
+        }
+    check(length_in_record(1, 2, 2) == 1 && length_in_record(1, 2, 4) == 2, "1,0 has length 1, 1,0,1,0 has 2");
+}
+
+static uint64_t some_bits(void) {
+    static uint64_t state = 1;
+    uint64_t z = state += UINT64_C(0x9E3779B97F4A7C15);
+    z = (z ^ z >> 30) * UINT64_C(0xBF58476D1CE4E5B9);
+    z = (z ^ z >> 27) * UINT64_C(0x94D049BB133111EB);
+    return z ^ z >> 31;
+}
+
+/* Every length of every size. In how many ways j of i things can be taken, for i = 0, 1, .., is modulo 2 a sequence of length j + 1: its
+ * differences are that for j - 1, and for j = 0 all terms are 1. Sums with smaller j have this length too. A term is odd where i has all the
+ * binary digits of j. */
+static void lengths_given(void) {
+    for (unsigned n = 1; n <= 64; n *= 2)
+        for (unsigned length = 0; length <= n; length++)
+            for (unsigned times = 0; times < 4; times++) {
+                uint64_t bits = 0, chosen = some_bits();
+                for (unsigned j = 0; j < length; j++)
+                    for (unsigned i = j; i < n && (j + 1 == length || digit(chosen, j)); i++) bits ^= (uint64_t)((i & j) == j) << i;
+                check_length(least_by_elimination(bits, n) == length, bits, n, length, "by elimination");
+                both_have_length(bits, n, length);
+            }
+}
+
+static void random_periods(void) {
+    for (unsigned times = 0; times < 400; times++)
+        for (unsigned n = 32; n <= 64; n *= 2) {
+            uint64_t bits = some_bits() >> (64 - n);
+            both_have_length(bits, n, least_by_elimination(bits, n));
+        }
+}
+
+/* What `generate` fills is handed on: with a = (1 + x)^l and b = 1 the sequence has the length l, and repeats after 64 terms. */
+static void runs_as_periods(void) {
+    for (unsigned l = 0; l <= 64; l++) {
+        lend(&a, 2 * 129, 0), lend(&b, 2 * 128, 0), lend(&cells, 2 * 64, 0x5A);
+        for (unsigned i = 0; i <= l; i++) put(start(&a), i, (l & i) == i);
+        if (l > 0) put(start(&b), 0, 1);
+        check(generate(2, &a, &b, l, &cells) == 0 && period_length(&cells) == 256 * l, "a run of 64 cells as a period");
+    }
+}
+
+/* One digit above 1 at each place, several of them, and nothing but such; some have a low byte of 0 or 1. */
+static void digits_above_1(void) {
+    static const unsigned wrong[] = {2, 3, 255, 256, 257, 512, 32768, 65280, 65281, 65535};
+    for (unsigned n = 1; n <= 64; n *= 2)
+        for (unsigned place = 0; place < n; place++) {
+            for (size_t i = 0; i < sizeof wrong / sizeof *wrong; i++) {
+                lend_period(UINT64_C(0x9D3B6C5A271E84F1), n);
+                put(start(&cells), place, wrong[i]);
+                refused_at(period_length(&cells), 3, place, &cells, "one digit above 1");
+            }
+            put(start(&cells), n - 1, 2);
+            refused_at(period_length(&cells), 3, place, &cells, "a digit above 1, and the last one");
+            for (unsigned later = place; later < n; later++) put(start(&cells), later, 2 + n - later);
+            refused_at(period_length(&cells), 3, place, &cells, "every digit from a place on is above 1");
+        }
+}
+
+/* What the number of bytes alone says; 0 where it is a period's. */
+static unsigned refusal_of_bytes(size_t len) {
+    for (size_t n = 1; n <= 64; n *= 2)
+        if (len == 2 * n) return 0;
+    return len % 2 == 1 ? 5 : 32;
+}
+
+/* Every number of bytes up to 520, and some around powers of two: of zeros, and of digits that are all above 1, so that 5 comes before 32 and
+ * 32 before 3. */
+static void periods_of_other_lengths(void) {
+    static const size_t larger[] = {1022, 1023, 1024, 1025, 1026, 2047, 2048, 2049, 2050, 4094, 4095, 4096};
+    for (size_t i = 0; i <= 520 + sizeof larger / sizeof *larger; i++) {
+        size_t len = i <= 520 ? i : larger[i - 521];
+        unsigned refusal = refusal_of_bytes(len);
+        char what[64];
+        snprintf(what, sizeof what, "%u bytes as a period", (unsigned)len);
+        lend(&cells, len, 0);
+        refused(period_length(&cells), refusal, &cells, what);
+        lend(&cells, len, 0xFF);
+        refused(period_length(&cells), refusal == 0 ? 3 : refusal, &cells, what);
+    }
+}
+
+/* Cut to 16 bits, these numbers of cells or of bytes would be a period's. */
+static void very_many_cells(void) {
+    static uint8_t zeros[2 * (65536 + 64) + 1];
+    called = "period_length, very many cells";
+    for (unsigned n = 1; n <= 64; n *= 2) {
+        check(diverthrone_period_length(zeros, 2 * (65536 + n)) == 32, "65,536 cells more than a period");
+        check(diverthrone_period_length(zeros, 65536 + 2 * n) == 32, "65,536 bytes more than a period");
+        check(diverthrone_period_length(zeros, 2 * (65536 + n) + 1) == 5, "65,536 cells and a byte more than a period");
+    }
+    check(diverthrone_period_length(zeros, 131072) == 32 && diverthrone_period_length(zeros, 65536) == 32, "65,536 and 32,768 cells");
+    check(zeros[0] == 0 && memcmp(zeros, zeros + 1, sizeof zeros - 1) == 0, "very many cells stay");
+}
+
+/* A period may begin at any address. */
+static void at_odd_addresses(void) {
+    static uint8_t room[GUARD + 128 + GUARD], before[sizeof room];
+    called = "period_length, at an odd address";
+    for (unsigned n = 1; n <= 64; n *= 2)
+        for (size_t at = GUARD - 8; at <= GUARD + 8; at++) {
+            uint64_t bits = some_bits() >> (64 - n);
+            memset(room, 0xA5, sizeof room);
+            for (unsigned i = 0; i < n; i++) put(room + at, i, digit(bits, i));
+            memcpy(before, room, sizeof room);
+            check(diverthrone_period_length(room + at, 2 * n) == 256 * least_by_elimination(bits, n), "a period at any address");
+            check(memcmp(before, room, sizeof room) == 0, "a period at any address stays");
+            put(room + at, n - 1, 256);
+            check(diverthrone_period_length(room + at, 2 * n) == 3 + 256 * (n - 1), "its last digit is above 1");
+        }
+}
+
 /* ---- NULL ---- */
 
 /* NULL with length 0 in each place of each call. */
@@ -1374,9 +1628,10 @@ static void nothing_lent(void) {
     refused(merge(&q, &other, &null), 5, &null, "merge: NULL for the query");
     refused(merge(&null, &null, &merged), 5, &merged, "merge: NULL for the two queries");
     refused(merge(&null, &null, &null), 5, &null, "merge: NULL for all three");
+    refused(period_length(&null), 32, &null, "period_length: NULL for the cells is none of them");
 }
 
-int main(void) {
+static void of_records(void) {
     records();
     query_refusals();
     wrong_terms();
@@ -1397,6 +1652,9 @@ int main(void) {
     malformed();
     before_25();
     runs();
+}
+
+static void of_lines(void) {
     lines_that_are_read();
     lines_that_are_refused();
     every_byte_at_every_place();
@@ -1407,6 +1665,9 @@ int main(void) {
     queries_of_other_lengths();
     long_lines();
     handed_on();
+}
+
+static void of_merges(void) {
     queries_that_are_merged();
     every_pair_of_terms();
     many_terms();
@@ -1418,6 +1679,27 @@ int main(void) {
     merged_lengths();
     coefficients_apart();
     merged_again();
+}
+
+static void of_periods(void) {
+    periods_by_hand();
+    short_periods();
+    periods_of_16();
+    fewer_terms();
+    lengths_given();
+    random_periods();
+    runs_as_periods();
+    digits_above_1();
+    periods_of_other_lengths();
+    very_many_cells();
+    at_odd_addresses();
+}
+
+int main(void) {
+    of_records();
+    of_lines();
+    of_merges();
+    of_periods();
     nothing_lent();
     printf("host test: %d checks, %d failed\n", checks, failures);
     return failures != 0;

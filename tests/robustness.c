@@ -2,9 +2,9 @@
  *
  *   robustness --back, robustness --front
  *       replays the script on standard input and writes the same text as the second program for verify, generate, synthesize, look_up,
- *       read_line and merge; the other operations are passed over. --back puts the end of each buffer at the forbidden page, --front its
- *       start; every other call hands over NULL for its empty buffers, and the same buffer for two equal queries that are merged, and the
- *       others a number above 2^32 that ends like an editor's for a visitor.
+ *       read_line, merge and period_length; the other operations are passed over. --back puts the end of each buffer at the forbidden page,
+ *       --front its start; every other call hands over NULL for its empty buffers, and the same buffer for two equal queries that are
+ *       merged, and the others a number above 2^32 that ends like an editor's for a visitor.
  *       To standard error go how many records with an accession number were found for editors, and for visitors of such a number, and how
  *       many queries were merged with themselves in one buffer.
  *   robustness --expand SEED COPIES
@@ -21,14 +21,14 @@
 #include <sys/mman.h>
 #include <unistd.h>
 
-enum { VERIFY = 4, GENERATE = 5, SYNTHESIZE = 6, LOOK_UP = 7, FORGE = 8, READ_LINE = 10, PUSH_ALL = 11, MERGE = 12 };
+enum { VERIFY = 4, GENERATE = 5, SYNTHESIZE = 6, LOOK_UP = 7, FORGE = 8, READ_LINE = 10, PUSH_ALL = 11, MERGE = 12, PERIOD_LENGTH = 13 };
 enum { HEADER = 16, WIDEST = 65535, PAINT = 0xC3, NEAR = 1024 };
 enum { QUERY = DIVERTHRONE_QUERY_BYTES, A = DIVERTHRONE_A_BYTES, B = DIVERTHRONE_B_BYTES, RECORD = DIVERTHRONE_RECORD_BYTES };
 enum { LENGTH_AT = DIVERTHRONE_LENGTH_PLACE, A_AT = DIVERTHRONE_A_PLACE, B_AT = DIVERTHRONE_B_PLACE, NUMBER_AT = DIVERTHRONE_NUMBER_PLACE };
 
 static const char *const names[] = {"open",    "push",  "register", "profile",   "verify",   "generate", "synthesize",
-                                    "look_up", "forge", "trace",    "read_line", "push_all", "merge"};
-static const size_t input_counts[] = {0, 0, 0, 0, 3, 2, 1, 2, 1, 0, 1, 1, 2};
+                                    "look_up", "forge", "trace",    "read_line", "push_all", "merge",    "period_length"};
+static const size_t input_counts[] = {0, 0, 0, 0, 3, 2, 1, 2, 1, 0, 1, 1, 2, 1};
 
 /* One call of a script; the inputs come first among its buffers, a buffer lent for writing follows them. */
 struct call {
@@ -40,9 +40,12 @@ struct call {
 
 static size_t inputs(const struct call *c) { return input_counts[c->op]; }
 
-static int tested(const struct call *c) { return (c->op >= VERIFY && c->op <= LOOK_UP) || c->op == READ_LINE || c->op == MERGE; }
+static int tested(const struct call *c) { return (c->op >= VERIFY && c->op <= LOOK_UP) || c->op == READ_LINE || c->op >= MERGE; }
 
-static size_t buffers(const struct call *c) { return c->op == VERIFY ? 3 : inputs(c) + 1; }
+static size_t buffers(const struct call *c) { return c->op == VERIFY || c->op == PERIOD_LENGTH ? inputs(c) : inputs(c) + 1; }
+
+/* The cells of a period are only read, but the text has their hash. */
+static int hashed(const struct call *c, size_t i) { return i >= inputs(c) || c->op == PERIOD_LENGTH; }
 
 static void stop(int status, const char *why) {
     fflush(stdout);
@@ -76,7 +79,7 @@ static int read_call(struct call *c) {
     if (got == 0) return 0;
     if (got < HEADER) broken("cut short");
     snprintf(unknown, sizeof unknown, "unknown %u", (unsigned)h[0]);
-    if (h[0] > MERGE) broken(unknown);
+    if (h[0] > PERIOD_LENGTH) broken(unknown);
     c->op = h[0], c->fill = h[1], c->number = number_at(h + 4, 4), c->l = number_at(h + 14, 2);
     for (size_t i = 0; i < 3; i++) c->len[i] = number_at(h + 8 + 2 * i, 2);
     if (c->op == FORGE && c->len[0] != QUERY) broken("bad forge");
@@ -175,6 +178,7 @@ static uint64_t enter(const struct call *c, uint8_t *const p[3]) {
     case SYNTHESIZE: return diverthrone_synthesize(p[0], n[0], p[1], n[1]);
     case READ_LINE: return diverthrone_read_line(p[0], n[0], p[1], n[1]);
     case MERGE: return diverthrone_merge(p[0], n[0], p[1], n[1], p[2], n[2]);
+    case PERIOD_LENGTH: return diverthrone_period_length(p[0], n[0]);
     default: return diverthrone_look_up(p[0], n[0], p[1], n[1], asker(c), p[2], n[2]);
     }
 }
@@ -195,6 +199,8 @@ static void print_reply(unsigned op, uint64_t reply) {
         printf("%s refused %u with the value %llu", names[op], refusal, value);
     else if (refusal != 0)
         printf("%s refused %u", names[op], refusal);
+    else if (op == PERIOD_LENGTH)
+        printf("%s length %llu", names[op], value);
     else if (op == VERIFY || op == LOOK_UP)
         value == 0 ? printf("%s %s", names[op], op == VERIFY ? "yes" : "made")
                    : printf("%s %s %llu", names[op], op == VERIFY ? "no" : "found", value - 1);
@@ -224,10 +230,8 @@ static void make(const struct call *c) {
     print_reply(c->op, reply);
     count_found(c, reply);
     for (size_t i = 0; i < buffers(c); i++) {
-        if (i >= inputs(c))
-            printf(" %08x", (unsigned)hash(p[i], c->len[i]));
-        else if (memcmp(p[i], c->bytes[i], c->len[i]) != 0)
-            stop(1, "an input has changed");
+        if (hashed(c, i)) printf(" %08x", (unsigned)hash(p[i], c->len[i]));
+        if (i < inputs(c) && memcmp(p[i], c->bytes[i], c->len[i]) != 0) stop(1, "an input has changed");
         check_paint(&areas[i], c->len[i]);
         allow(&areas[i], PROT_READ | PROT_WRITE);
         memset(p[i], PAINT, c->len[i]);
@@ -605,6 +609,69 @@ static void either(struct call *c) {
     if (second && c->op == MERGE) change_places(c);
 }
 
+/* Another digit of a period, 0 or 1. */
+static void other_digit(struct call *c) {
+    size_t n = c->len[0] / 2;
+    if (n == 0) return;
+    size_t at = below(n);
+    set_cell(c->bytes[0], at, below(2));
+}
+
+/* One or more digits that are above 1, with more than their share at the ends: the first of them is told. */
+static void wrong_digits(struct call *c) {
+    uint32_t n = (uint32_t)(c->len[0] / 2);
+    if (n == 0) return;
+    do {
+        const uint32_t places[] = {0, n - 1, below(n)};
+        size_t place = pick(places, 3);
+        uint32_t r = any(), values[] = {2, 3, 255, 256, 257, 65280, 65535, 2 + r % 65534};
+        set_cell(c->bytes[0], place, pick(values, sizeof values / sizeof *values));
+    } while (below(2));
+}
+
+/* Another number of cells, two times in three a legal one; where there are more, the digits come again. */
+static void other_size(struct call *c) {
+    static const uint32_t wrong[] = {0, 3, 5, 6, 7, 12, 31, 33, 48, 63, 65, 96, 127, 128, 129, 256, 1024};
+    size_t n = c->len[0] / 2, size = below(3) ? (size_t)1 << below(7) : pick(wrong, sizeof wrong / sizeof *wrong);
+    for (size_t i = n; i < size; i++) set_cell(c->bytes[0], i, n == 0 ? 0 : cell(c->bytes[0], i - n));
+    c->len[0] = 2 * size;
+}
+
+/* From a place on each digit is the one so many places before, or the other one: halves that are equal or differ everywhere. */
+static void repeated(struct call *c) {
+    size_t n = c->len[0] / 2, part = (size_t)1 << below(6);
+    uint32_t other = below(2);
+    for (size_t i = part; i < n; i++) {
+        uint32_t before = cell(c->bytes[0], i - part);
+        set_cell(c->bytes[0], i, before > 1 ? before : before ^ other);
+    }
+}
+
+/* Digits of any length, each as likely, since that of random digits is nearly always next to their number: a sum of sequences of the lengths
+ * 1 .. l, the last of them among them. That of length j + 1 is 1 where the place has all the binary digits of j. */
+static void any_length(struct call *c) {
+    size_t n = c->len[0] / 2;
+    if (n > 128) return;
+    size_t l = below(n + 1);
+    memset(c->bytes[0], 0, 2 * n);
+    for (size_t j = 0; j < l; j++) {
+        uint32_t taken = j + 1 == l ? 1 : below(2);
+        for (size_t i = j; i < n; i++)
+            if ((i & j) == j) set_cell(c->bytes[0], i, cell(c->bytes[0], i) ^ taken);
+    }
+}
+
+/* Two periods as a query, whose record has the same length. */
+static void query_of_period(struct call *c) {
+    uint8_t query[QUERY] = {2};
+    uint32_t n = (uint32_t)(c->len[0] / 2);
+    if (n > 64) return;
+    set_cell(query, 1, 2 * n);
+    for (size_t i = 0; i < 2 * n; i++) set_cell(query, 2 + i, cell(c->bytes[0], i % n));
+    memcpy(c->bytes[0], query, QUERY), c->len[0] = QUERY;
+    synthesize_query(c);
+}
+
 /* One alteration in three is followed by another one, for the order of the refusals. */
 static void alter(struct call *c) {
     static void (*const ways[])(struct call *) = {one_byte,        one_cell,        one_cell,      one_term,      one_term,     wrong_terms,
@@ -615,11 +682,16 @@ static void alter(struct call *c) {
     static void (*const merge_ways[])(struct call *) = {one_byte,     one_cell,     one_length,   other_fill,   either, either,
                                                         either,       either,       one_pair,     one_pair,     twice,  same_count,
                                                         same_numbers, same_numbers, same_numbers, change_places};
+    static void (*const period_ways[])(struct call *) = {one_byte,   other_digit, other_digit, wrong_digits,   wrong_digits, other_size,
+                                                         other_size, repeated,    repeated,    any_length,     any_length,   any_length,
+                                                         any_length, one_length,  one_length,  query_of_period};
     do {
         if (c->op == READ_LINE)
             line_ways[below(sizeof line_ways / sizeof *line_ways)](c);
         else if (c->op == MERGE)
             merge_ways[below(sizeof merge_ways / sizeof *merge_ways)](c);
+        else if (c->op == PERIOD_LENGTH)
+            period_ways[below(sizeof period_ways / sizeof *period_ways)](c);
         else
             ways[below(sizeof ways / sizeof *ways)](c);
     } while (below(3) == 0);

@@ -11,13 +11,13 @@
 #include <sys/mman.h>
 
 enum { TERMS = 128, STACK = 1 << 17, PAINT = 0xC3 };
-enum { NOTHING, VERIFY, GENERATE, SYNTHESIZE, MADE, FOUND, SHOWN, READ_LINE, MERGE, GOLDEN, REGISTER, TRACE, KINDS };
+enum { NOTHING, VERIFY, GENERATE, SYNTHESIZE, MADE, FOUND, SHOWN, READ_LINE, MERGE, GOLDEN, PERIOD, REGISTER, TRACE, KINDS };
 
 uint64_t timing_register(uint32_t m, uint32_t count, const uint32_t *terms, uint8_t *a, size_t a_len, uint8_t *b, size_t b_len);
 uint64_t timing_trace(uint32_t m, uint32_t count, const uint32_t *terms, uint8_t *a, size_t a_len, uint8_t *b, size_t b_len);
 
-static const char *const names[KINDS] = {"no call", "verify",    "generate", "synthesize",   "look_up made", "look_up found",
-                                         "editor",  "read_line", "merge",    "merge golden", "register",     "trace"};
+static const char *const names[KINDS] = {"no call",   "verify", "generate",     "synthesize",    "look_up made", "look_up found", "editor",
+                                         "read_line", "merge",  "merge golden", "period_length", "register",     "trace"};
 static uint8_t *stack, *caller;
 static uint8_t query[DIVERTHRONE_QUERY_BYTES], record[DIVERTHRONE_RECORD_BYTES], shelf[DIVERTHRONE_RECORD_BYTES], cells[2 * TERMS];
 static uint8_t a_cells[DIVERTHRONE_A_BYTES], b_cells[DIVERTHRONE_B_BYTES];
@@ -31,6 +31,10 @@ static struct merge {
     uint8_t second[DIVERTHRONE_QUERY_BYTES], merged[DIVERTHRONE_QUERY_BYTES], want[DIVERTHRONE_QUERY_BYTES];
     uint64_t reply;
 } merges[2];
+
+/* A period of 64 digits, the most that there are, and the reply to it. */
+static uint8_t period[TERMS];
+static uint64_t period_reply;
 
 static uint32_t below(uint32_t n) {
     state = state * 6364136223846793005u + 1442695040888963407u;
@@ -55,6 +59,7 @@ static uint64_t enter(int kind) {
     case READ_LINE: return diverthrone_read_line(line, line_len, typed, sizeof typed);
     case MERGE: return diverthrone_merge(query, sizeof query, merges[0].second, sizeof query, merges[0].merged, sizeof query);
     case GOLDEN: return diverthrone_merge(query, sizeof query, merges[1].second, sizeof query, merges[1].merged, sizeof query);
+    case PERIOD: return diverthrone_period_length(period, sizeof period);
     case REGISTER: return (uint32_t)timing_register(modulus, TERMS, terms, a_cells, sizeof a_cells, b_cells, sizeof b_cells) != l;
     case TRACE: return timing_trace(modulus, TERMS, terms, a_cells, sizeof a_cells, b_cells, sizeof b_cells) == 0;
     default: return 0;
@@ -63,6 +68,17 @@ static uint64_t enter(int kind) {
 
 /* The reply to the next call. */
 static uint64_t due;
+
+static uint64_t due_to(int kind) {
+    switch (kind) {
+    case FOUND:
+    case SHOWN: return 256;
+    case MERGE: return merges[0].reply;
+    case GOLDEN: return merges[1].reply;
+    case PERIOD: return period_reply;
+    default: return 0;
+    }
+}
 
 static void *run(void *argument) {
     int *kind = argument;
@@ -81,7 +97,7 @@ static size_t depth(int kind) {
     pthread_t thread;
     pthread_attr_t attributes;
     int argument = kind;
-    due = kind == FOUND || kind == SHOWN ? 256 : kind == MERGE ? merges[0].reply : kind == GOLDEN ? merges[1].reply : 0;
+    due = due_to(kind);
     memset(stack, PAINT, STACK);
     need(pthread_attr_init(&attributes) == 0 && pthread_attr_setstack(&attributes, stack, STACK) == 0, "no stack for the thread");
     need(pthread_create(&thread, &attributes, run, &argument) == 0 && pthread_join(thread, NULL) == 0, "no thread");
@@ -142,6 +158,19 @@ static void make_merges(void) {
     make_merge(&merges[1], golden < 2 ? 2 : golden);
 }
 
+/* The last half of the terms, modulo 2; its length is expected from the record of two such periods. */
+static void make_period(void) {
+    uint8_t twice[DIVERTHRONE_QUERY_BYTES], made[DIVERTHRONE_RECORD_BYTES];
+    put(twice, 0, 2), put(twice, 1, TERMS);
+    for (size_t i = 0; i < TERMS; i++) {
+        size_t place = i % (TERMS / 2);
+        uint32_t digit = terms[TERMS / 2 + place] % 2;
+        put(twice, 2 + i, digit), put(period, place, digit);
+    }
+    need(diverthrone_synthesize(twice, sizeof twice, made, sizeof made) == 0, "a record of two periods");
+    period_reply = 256 * (uint64_t)diverthrone_cell(made + DIVERTHRONE_LENGTH_PLACE, 0);
+}
+
 /* The largest depths for one modulus go up into `most`. */
 static void measure(uint32_t m, size_t most[KINDS]) {
     modulus = m;
@@ -149,6 +178,7 @@ static void measure(uint32_t m, size_t most[KINDS]) {
         make_query(shape);
         type_line();
         make_merges();
+        make_period();
         need(diverthrone_synthesize(query, sizeof query, shelf, sizeof shelf) == 0, "a record for the catalogue");
         for (int kind = 0; kind < KINDS; kind++) {
             size_t d = depth(kind);

@@ -7,6 +7,7 @@
 #undef diverthrone_generate
 #undef diverthrone_read_line
 #undef diverthrone_merge
+#undef diverthrone_period_length
 
 const uint8_t *seen[3];
 size_t seen_len[3];
@@ -50,4 +51,9 @@ uint64_t diverthrone_merge(const uint8_t *first, size_t first_len, const uint8_t
                            size_t query_len) {
     see(0, first, first_len), see(1, second, second_len), see(2, query, query_len);
     return 6;
+}
+
+uint64_t diverthrone_period_length(const uint8_t *cells, size_t cells_len) {
+    see(0, cells, cells_len);
+    return 7;
 }

@@ -8,11 +8,19 @@ use Rattle.sequence.specs.Answers.{Answer}
 abbrev pub lastPlace : ℕ
 lastPlace = 72057594037927935
 
--- Of an answer that is not refused no value is 0, and a value v is 1 + v; with a refusal the value is the place itself, 0 where it has none.
-abbrev pub valueOf : ℕ → List ℕ → ℕ
-valueOf n [] = 0
-valueOf zero (v ∷ vs) = 1 + v
-valueOf (suc n) (v ∷ vs) = min v lastPlace
+-- With a refusal the value is the place itself; without one it is what `told` makes of it. No value is 0.
+abbrev pub valueBy : (ℕ → ℕ) → ℕ → List ℕ → ℕ
+valueBy told n [] = 0
+valueBy told zero (v ∷ vs) = told v
+valueBy told (suc n) (v ∷ vs) = min v lastPlace
 
+abbrev pub codeBy : (ℕ → ℕ) → Answer → ℕ
+codeBy told x = x .number + 256 * valueBy told (x .number) (x .values)
+
+-- where an answer that is not refused may have no value, which 0 says, a value v is 1 + v
 abbrev pub codeOf : Answer → ℕ
-codeOf x = x .number + 256 * valueOf (x .number) (x .values)
+codeOf x = codeBy suc x
+
+-- where it always has one, a length, that is told as it is
+abbrev pub lengthCodeOf : Answer → ℕ
+lengthCodeOf x = codeBy (λ l. l) x

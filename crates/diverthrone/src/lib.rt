@@ -1,6 +1,7 @@
 // The functions for C. A slice passes as a pointer and a length; include/diverthrone.h has the declarations.
 use candidate::Verdict;
 use catalogue::LookedUp;
+use period::Measured;
 use sequence::Outcome;
 use sequence::Place;
 use sequence::Refusal;
@@ -13,7 +14,8 @@ ghost use Rattle.catalogue.specs.Rules.{recordOf, synthesizeOf, synthesizeAnswe
 ghost use Rattle.lines.specs.Reading.{foundIn};
 ghost use Rattle.lines.specs.Reply.{readOf, readAnswer, queryIn};
 ghost use Rattle.merge.specs.Rules.{mergeOf, mergeAnswer, mergedIn};
-ghost use Rattle.diverthrone.specs.Codes.{lastPlace, codeOf};
+ghost use Rattle.period.specs.Rules.{periodLengthAnswer};
+ghost use Rattle.diverthrone.specs.Codes.{lastPlace, codeOf, lengthCodeOf};
 
 // 2^56 - 1: the last place that fits beside the number of a refusal.
 const LAST_PLACE: u64 = 72057594037927935;
@@ -134,5 +136,18 @@ pub extern "C" fn diverthrone_merge(first: &[u8], second: &[u8], query: &mut [u8
     match o {
         Outcome::Done => 0,
         Outcome::Refused(r) => refused(r),
+    }
+}
+
+// The length of the binary sequence whose period is lent.
+// Rejected: one that tells 1 more than the length; one that tells 3 without its place.
+#[no_mangle]
+pub extern "C" fn diverthrone_period_length(cells: &[u8]) -> u64
+    ensures { λ r. ⌜ r ≡ lengthCodeOf (periodLengthAnswer (now (cells .entry))) ⌝ }
+{
+    let m = period::period_length(cells);
+    match m {
+        Measured::Length(l) => 256 * (l as u64),
+        Measured::Refused(r) => refused(r),
     }
 }

@@ -4,6 +4,7 @@ pub mod Demand
 pub mod Working
 pub mod Only
 pub mod Records
+pub mod Shown
 pub mod Visitors
 pub mod Cases
 pub mod Counted
@@ -17,3 +18,5 @@ pub mod Listing
 pub mod Printed
 pub mod Merging
 pub mod MergingRows
+pub mod Periods
+pub mod PeriodRows

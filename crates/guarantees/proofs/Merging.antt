@@ -3,34 +3,29 @@
 use mathlib.Core.Path.{_≡_, refl, sym, ap, ap₂, _∙_, subst}
 use mathlib.Core.Bool.{Bool, true, false}
 use mathlib.Core.Logic.{_⊎_, inl, inr}
-use mathlib.Core.List.{List, [], map}
+use mathlib.Core.List.{List}
 use Prim.Native.Nat.{ℕ, zero, _+_, _%_, _≤_, _<_, max}
 use native.Mathlib.Nat.{le-antisymm}
 use native.Mathlib.Omega.{arith}
 use lib.Dec.{eqb}
-use lib.ListN.{length, replicate, length-replicate}
-use lib.Seq.{getD-take}
+use lib.ListN.{length}
 use borrow.Author.Tests.{eq-eqb, ne-eqb, eqb-true}
 use Rattle.lists.specs.Choice.{pick}
 use Rattle.lists.specs.Table.{at}
 use Rattle.lists.proofs.Search.{false-true}
 use Rattle.cells.specs.Cell.{cellAt}
 use Rattle.residue.specs.Common.{commonDivisor, commonMultiple}
-use Rattle.residue.proofs.Congruence.{of-eq}
 use Rattle.residue.proofs.Common.{greatest, multiple-pos, multiple-left, multiple-right, multiple-least}
 use Rattle.recurrence.specs.Least.{Least}
 use Rattle.recurrence.specs.Register.{complexity}
 use Rattle.recurrence.proofs.Length.{least-unique}
-use Rattle.recurrence.proofs.Register.{complexity-is-least, complexity-same}
 use Rattle.sequence.specs.declared.Sequence.{Sequence}
 use Rattle.sequence.specs.declared.Refusal.{Refusal}
 use Rattle.sequence.specs.declared.Refusal.the-variants as R
 use Rattle.sequence.specs.declared.Outcome.{Outcome}
 use Rattle.sequence.specs.declared.Outcome.the-variants.{Done, Refused}
-use Rattle.sequence.specs.declared.Reported.{Reported}
-use Rattle.sequence.specs.declared.Reported.the-variants as P
-use Rattle.sequence.specs.Limits.{maxModulus, queryBytes, aBytes, bBytes, profileBytes}
-use Rattle.sequence.specs.Rules.{IsSound, openOf, sequenceOf, checkOf}
+use Rattle.sequence.specs.Limits.{maxModulus, queryBytes, profileBytes}
+use Rattle.sequence.specs.Rules.{IsSound, sequenceOf, checkOf}
 use Rattle.sequence.specs.Answers.{refusal}
 use Rattle.sequence.proofs.Laws.{term-cell, check-done, check-small, same-number, refused-done}
 use Rattle.catalogue.specs.Rules.{recordBytes}
@@ -39,64 +34,14 @@ use Rattle.merge.proofs.Laws as L
 use Rattle.merge.proofs.Laws.{Mergeable, ApartAt, Comparison, comparing, counts-told, multiple-told, terms-told, merges-told, mergeable}
 use Rattle.merge.proofs.Merger.{both-agree, term-both, term-only, merged-modulus, merged-count, merged-term, merged-passes, merged-complexity}
 use Rattle.merge.proofs.Answers.{merge-told}
-use Rattle.guarantees.specs.Calls.{Call, push, afterAll, taken}
-use Rattle.guarantees.specs.Claims.{ShownBy, Demand3, MadeServedReported, termsOf}
+use Rattle.guarantees.specs.Calls.{Call}
+use Rattle.guarantees.specs.Claims.{termsOf, profileCell, lengthMade}
 use Rattle.guarantees.specs.Refusals.{Readable, FirstWrong, Clean}
 use Rattle.guarantees.specs.Merging as M
-use Rattle.guarantees.specs.Merging.{GreatestDivisor, LeastMultiple, LeavesBoth, Comparable, Reason, first-buffer, second-buffer, query-buffer, first-own, second-own, profileCell, lengthMade, Takes, IsMerged, mergedExit, TwoQueries}
-use Rattle.guarantees.proofs.Demand.{demand}
-use Rattle.guarantees.proofs.Records.{least, most, terms-long, terms-pushed, empty-made, same}
+use Rattle.guarantees.specs.Merging.{GreatestDivisor, LeastMultiple, LeavesBoth, Comparable, Reason, first-buffer, second-buffer, query-buffer, first-own, second-own, Takes, IsMerged, mergedExit, TwoQueries}
+use Rattle.guarantees.proofs.Records.{least}
+use Rattle.guarantees.proofs.Shown.{least-is, is-least, cell-least, made-least}
 use Rattle.guarantees.proofs.Refusals.{passed-clean, clean-passed, every-place}
-
--- ---- what the calls show of one query
-
-module _ (query : List ℕ) (fine : checkOf query ≡ Done) where
-  abbrev m : ℕ
-  m = cellAt query 0
-
-  abbrev n : ℕ
-  n = cellAt query 1
-
-  count-is : length (termsOf query) ≡ n
-  unfolding sequenceOf
-  count-is = terms-long query fine
-
-  -- the least length of the first k terms is their linear complexity
-  least-is : (k l : ℕ) → k ≤ n → Least m (at (termsOf query)) k l → l ≡ complexity m (sequenceOf query .terms) k
-  least-is k l h x =
-      least-unique m (at (termsOf query)) k l (complexity m (termsOf query) k) x (complexity-is-least m (least query fine) (termsOf query) k)
-      ∙ complexity-same m (least query fine) (termsOf query) (sequenceOf query .terms) k (λ j b. of-eq (getD-take n (sequenceOf query .terms) j zero (omega arith)))
-
-  is-least : (k l : ℕ) → k ≤ n → l ≡ complexity m (sequenceOf query .terms) k → Least m (at (termsOf query)) k l
-  is-least k l h e =
-      let x = complexity-is-least m (least query fine) (termsOf query) k in
-      subst (Least m (at (termsOf query)) k) (least-is k (complexity m (termsOf query) k) h x ∙ sym e) x
-
-  -- and so is the profile's cell after calls that take them
-  module _ (calls : List Call) (takes : Takes calls query) (cells : List ℕ) (size : length cells ≡ profileBytes) where
-    shown : ShownBy m (taken m calls) (afterAll (openOf m .sequence) calls) (replicate aBytes 0) (replicate bBytes 0) cells
-    unfolding Demand3
-    shown =
-        demand m (least query fine) (most query fine) .shows calls (replicate aBytes 0) (replicate bBytes 0) cells (length-replicate {A = ℕ} aBytes 0)
-        (length-replicate {A = ℕ} bBytes 0) size
-
-    long : length (taken m calls) ≡ n
-    long = ap (λ (ts : List ℕ). length ts) takes ∙ count-is
-
-    cell-least : (k : ℕ) → k ≤ n → Least m (at (termsOf query)) k (profileCell m calls cells k)
-    cell-least k h = subst (λ (ts : List ℕ). Least m (at ts) k (profileCell m calls cells k)) takes (shown .least k (omega (arith, long)))
-
-    -- the length in the record is the profile's last cell
-    made-last : (out : List ℕ) → length out ≡ recordBytes → lengthMade query out ≡ profileCell m calls cells n
-    unfolding MadeServedReported
-    made-last out h =
-        ap told (sym (same query [] 0 out fine empty-made h .record-made calls (replicate aBytes 0) (replicate bBytes 0) takes
-        (length-replicate {A = ℕ} aBytes 0) (length-replicate {A = ℕ} bBytes 0) .length-same) ∙ shown .reported)
-        ∙ shown .last ∙ ap (profileCell m calls cells) long
-      where
-        told : Reported → ℕ
-        told (P.Length l w) = l
-        told (P.Refused r) = zero
 
 -- ---- two queries that are held against each other
 
@@ -265,21 +210,10 @@ module _ (x y : List ℕ) (fx : checkOf x ≡ Done) (fy : checkOf y ≡ Done) wh
         (out-x out-y out-z : List ℕ) → length out-x ≡ recordBytes → length out-y ≡ recordBytes → length out-z ≡ recordBytes
         → lengthMade z out-z ≡ max (lengthMade x out-x) (lengthMade y out-y)
     lengths-merged ox oy oz hx hy hz =
-        made-last z fz (pushes z) (terms-pushed z fz) cells size oz hz
-        ∙ profiles-merged (pushes x) (pushes y) (pushes z) cells cells cells (terms-pushed x fx) (terms-pushed y fy) (terms-pushed z fz) size size size (cellAt z 1) (omega arith)
-        ∙ ap₂ max (last x fx ox hx (cellAt z 1) x-count) (last y fy oy hy (cellAt z 1) y-count)
-      where
-        cells : List ℕ
-        cells = replicate profileBytes 0
-
-        size : length cells ≡ profileBytes
-        size = length-replicate {A = ℕ} profileBytes 0
-
-        pushes : List ℕ → List Call
-        pushes query = map push (termsOf query)
-
-        last : (query : List ℕ) (fine : checkOf query ≡ Done) (out : List ℕ) → length out ≡ recordBytes → (k : ℕ) → k ≡ cellAt query 1 → profileCell (cellAt query 0) (pushes query) cells k ≡ lengthMade query out
-        last query fine out h k e = ap (profileCell (cellAt query 0) (pushes query) cells) e ∙ sym (made-last query fine (pushes query) (terms-pushed query fine) cells size out h)
+        least-unique (cellAt z 0) (at (termsOf z)) (cellAt z 1) (lengthMade z oz) (max (lengthMade x ox) (lengthMade y oy)) (made-least z fz oz hz)
+        (least-merged (cellAt z 1) (lengthMade x ox) (lengthMade y oy) (omega arith)
+        (subst (λ (k : ℕ). Least (cellAt x 0) (at (termsOf x)) k (lengthMade x ox)) (sym x-count) (made-least x fx ox hx))
+        (subst (λ (k : ℕ). Least (cellAt y 0) (at (termsOf y)) k (lengthMade y oy)) (sym y-count) (made-least y fy oy hy)))
 
     is-merged : IsMerged x y z
     is-merged =

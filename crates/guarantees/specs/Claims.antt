@@ -48,6 +48,12 @@ pub record Shows (m : ℕ) (ts : List ℕ) (r : Reported) (o : Outcome) (a b cel
   pub one : cellAt a 0 ≡ 1
   pub generates : Generates m ts (length ts) (pairOf (T.register m ts (length ts)))
 
+-- cell k of the profile of the sequence after some calls, lent a buffer
+abbrev pub profileCell : ℕ → List Call → List ℕ → ℕ → ℕ
+profileCell m calls cells k =
+    let s = afterAll (openOf m .sequence) calls in
+    cellAt (filled (profileOf s cells) (profileBuffer s) cells) k
+
 -- the register and the profile of a sequence show them, lent buffers a, b and cells
 abbrev pub ShownBy : ℕ → List ℕ → Sequence → List ℕ → List ℕ → List ℕ → Type 0
 ShownBy m ts s a b cells =
@@ -120,6 +126,10 @@ pub record MadeCatalogue (catalogue : List ℕ) : Type 0 where
 -- the terms of a query
 abbrev pub termsOf : List ℕ → List ℕ
 termsOf query = take (cellAt query 1) (sequenceOf query .terms)
+
+-- the length in the record that is made of a query, lent a buffer
+abbrev pub lengthMade : List ℕ → List ℕ → ℕ
+lengthMade query out = cellAt (filled (synthesizeOf query out) (recordOf query) out) lengthCell
 
 -- the length and the cells in a record are those that the register gives after the calls, lent buffers a and b
 pub record AgreesWith (m : ℕ) (calls : List Call) (a b entry : List ℕ) : Type 0 where

@@ -12,3 +12,5 @@ pub mod Typed
 pub mod Listing
 pub mod Merging
 pub mod MergingRows
+pub mod Periods
+pub mod PeriodRows

@@ -15,12 +15,11 @@ use Rattle.sequence.specs.declared.Outcome.{Outcome}
 use Rattle.sequence.specs.declared.Outcome.the-variants.{Done, Refused}
 use Rattle.sequence.specs.Limits.{maxModulus, queryBytes, profileBytes}
 use Rattle.sequence.specs.Answers.{outcomeAnswer}
-use Rattle.sequence.specs.Rules.{openOf, checkOf}
-use Rattle.sequence.specs.Report.{profileOf, profileBuffer, filled}
-use Rattle.catalogue.specs.Rules.{recordBytes, lengthCell, recordOf, synthesizeOf}
+use Rattle.sequence.specs.Rules.{checkOf}
+use Rattle.catalogue.specs.Rules.{recordBytes}
 use Rattle.merge.specs.Rules.{mergeOf, mergeAnswer, mergedIn}
-use Rattle.guarantees.specs.Calls.{Call, afterAll, taken}
-use Rattle.guarantees.specs.Claims.{termsOf}
+use Rattle.guarantees.specs.Calls.{Call, taken}
+use Rattle.guarantees.specs.Claims.{termsOf, profileCell, lengthMade}
 use Rattle.guarantees.specs.Refusals.{Readable, FirstWrong, Clean}
 
 -- ---- the words of the request
@@ -74,16 +73,6 @@ pub data Reason (x y query : List ℕ) (o : Outcome) : Type 0 where
       → ((j : ℕ) → j < cellAt x 1 → AgreeAt x y g j) → o ≡ Done → Reason x y query o
 
 -- ---- the merged query
-
--- cell k of the profile of the sequence after some calls, lent a buffer
-abbrev pub profileCell : ℕ → List Call → List ℕ → ℕ → ℕ
-profileCell m calls cells k =
-    let s = afterAll (openOf m .sequence) calls in
-    cellAt (filled (profileOf s cells) (profileBuffer s) cells) k
-
--- the length in the record that is made of a query, lent a buffer
-abbrev pub lengthMade : List ℕ → List ℕ → ℕ
-lengthMade query out = cellAt (filled (synthesizeOf query out) (recordOf query) out) lengthCell
 
 -- some calls take the terms of a query
 abbrev pub Takes : List Call → List ℕ → Type 0

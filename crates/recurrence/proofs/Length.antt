@@ -3,7 +3,7 @@
 use mathlib.Core.Path.{_≡_, refl, sym, ap, _∙_, subst}
 use mathlib.Core.List.{List, [], _∷_}
 use Prim.Native.Nat.{ℕ, zero, suc, _+_, _*_, _-_, _%_, _≤_, _<_}
-use native.Mathlib.Nat.{le-antisymm, mod-lt, suc-sub-suc}
+use native.Mathlib.Nat.{le-antisymm, mod-lt, mod-self, suc-sub-suc}
 use native.Mathlib.Decide.{decLe, decLt}
 use native.Mathlib.Omega.{arith}
 use lib.ListN.{length}
@@ -36,6 +36,17 @@ combination-cong {q} cs S T j h same = go (length cs) h
 pub gives-divisor : (m q : ℕ) (S T : ℕ → ℕ) (k : ℕ) (cs : List ℕ) → m % q ≡ zero → ((j : ℕ) → j < k → Cong q (S j) (T j)) → Gives m S k cs → Gives q T k cs
 gives-divisor m q S T k cs d same g j h lt =
     tr (sy (same j lt)) (tr (cong-divisor q m d (g j h lt)) (combination-cong cs S T j h (λ i l. same i (omega arith))))
+
+-- the first k terms alone count, and these only modulo m
+pub least-same : (m : ℕ) (S T : ℕ → ℕ) (k l : ℕ) → ((j : ℕ) → j < k → Cong m (S j) (T j)) → Least m S k l → Least m T k l
+least-same m S T k l same x =
+    record {
+      some = x .some;
+      many = x .many;
+      small = x .small;
+      gives = gives-divisor m m S T k (x .some) (mod-self m) same (x .gives);
+      least = λ cs g. x .least cs (gives-divisor m m T S k cs (mod-self m) (λ j h. sy (same j h)) g);
+    }
 
 -- the sum of c_i S_(j-i) as a product of series
 pub combination-conv : (cs : List ℕ) (S : ℕ → ℕ) (j : ℕ) → length cs ≤ suc j → combination cs S (suc j) ≡ conv (at cs) S j

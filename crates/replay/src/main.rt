@@ -4,6 +4,7 @@ use candidate::Verdict;
 use catalogue::LookedUp;
 use libc::STDIN_FILENO;
 use libc::STDOUT_FILENO;
+use period::Measured;
 use sequence::Outcome;
 use sequence::QUERY_BYTES;
 use sequence::Reported;
@@ -442,6 +443,29 @@ fn merge(c: Call) -> bool {
     merge_in(&mut first[0..x], &mut second[0..y], &mut query[0..z])
 }
 
+fn period_length_in(cells: &mut [u8]) -> bool {
+    if is_cut(cells) {
+        return false;
+    }
+    let m = period::period_length(cells);
+    printing::text(b"period_length ");
+    match m {
+        Measured::Length(l) => {
+            printing::text(b"length ");
+            printing::number(l as u64);
+        }
+        Measured::Refused(r) => printing::refused(r),
+    }
+    end_hash(hash(cells));
+    true
+}
+
+fn period_length(c: Call) -> bool {
+    let x = c.x as usize;
+    let mut cells = [0u8; 65536];
+    period_length_in(&mut cells[0..x])
+}
+
 fn forge(s: Sequence, c: Call) -> Turn {
     if c.x as usize != QUERY_BYTES {
         printing::text(b"script bad forge\n");
@@ -479,6 +503,7 @@ fn act(s: Sequence, c: Call) -> Turn {
         10 => kept(s, read_line(c)),
         11 => push_all(s, c),
         12 => kept(s, merge(c)),
+        13 => kept(s, period_length(c)),
         _ => unknown(s, operation),
     }
 }

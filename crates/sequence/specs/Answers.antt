@@ -49,6 +49,7 @@ refusal (R.LineRange i) = refusedAt 28 i
 refusal R.CountsDiffer = refused 29
 refusal R.MultipleAbove = refused 30
 refusal (R.TermsDisagree i) = refusedAt 31 i
+refusal R.Period = refused 32
 
 -- a place as a value
 abbrev pub placed : Place → List ℕ

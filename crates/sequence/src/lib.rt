@@ -63,6 +63,7 @@ pub enum Refusal {
     CountsDiffer,
     MultipleAbove,
     TermsDisagree(u32),
+    Period,
 }
 
 // The place that a refusal carries.
@@ -317,6 +318,7 @@ pub fn number(r: Refusal) -> u64
         Refusal::CountsDiffer => 29,
         Refusal::MultipleAbove => 30,
         Refusal::TermsDisagree(_) => 31,
+        Refusal::Period => 32,
     }
 }
 
