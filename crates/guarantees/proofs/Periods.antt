@@ -21,15 +21,12 @@ use Rattle.recurrence.specs.Least.{Least}
 use Rattle.recurrence.specs.Register as T
 use Rattle.recurrence.proofs.Length.{least-unique}
 use Rattle.recurrence.proofs.Register.{register-right}
-use Rattle.sequence.specs.declared.Refusal.{Refusal}
 use Rattle.sequence.specs.declared.Refusal.the-variants as R
 use Rattle.sequence.specs.declared.Outcome.the-variants.{Done}
 use Rattle.sequence.specs.declared.Uniqueness.{Uniqueness}
 use Rattle.sequence.specs.declared.Uniqueness.the-variants.{Sole}
-use Rattle.sequence.specs.declared.Reported.{Reported}
 use Rattle.sequence.specs.declared.Reported.the-variants as P
 use Rattle.sequence.specs.Limits.{maxTerms, aBytes, bBytes, profileBytes}
-use Rattle.sequence.specs.Answers.{refusal}
 use Rattle.sequence.specs.Rules.{firstLarge, openOf, checkOf}
 use Rattle.sequence.specs.Report.{uniquenessOf, reportOf}
 use Rattle.sequence.proofs.OnlyOne.{said-sole}
@@ -41,7 +38,7 @@ use Rattle.period.specs.Halving.{halving}
 use Rattle.period.specs.Rules.{exponent, digitsIn, measuredAnswer, periodLengthOf, periodLengthAnswer}
 use Rattle.period.proofs.Laws as L
 use Rattle.period.proofs.Answers.{period-told}
-use Rattle.diverthrone.specs.Codes.{codeOf, lengthCodeOf}
+use Rattle.diverthrone.specs.Codes.{lengthCodeOf}
 use Rattle.diverthrone.proofs.Laws.{length-valued, length-refused}
 use Rattle.guarantees.specs.Calls.{Call, pushAll, afterAll, takesEach, takes, takenFrom, taken}
 use Rattle.guarantees.specs.Claims.{ShownBy, Demand3, termsOf, profileCell, lengthMade}

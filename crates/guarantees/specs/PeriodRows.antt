@@ -1,7 +1,7 @@
 -- Periods with the answers to them: all of 1, 2 and 4 digits with the lengths that the steps give for two periods, longer ones, each refusal, and their order.
 -- Assumes nothing.
 use mathlib.Core.Path.{_≡_}
-use mathlib.Core.List.{List, [], _∷_, _++_, map}
+use mathlib.Core.List.{List, [], _∷_, _++_}
 use Prim.Native.Nat.{ℕ, suc, _+_, _*_, _^_}
 use lib.ListN.{replicate}
 use Rattle.lists.specs.Table.{tabulate}

@@ -1,13 +1,12 @@
 -- Laws of the reply: which of its cases holds, and what a length that is told is.
 -- Assumes nothing.
 use mathlib.Core.Path.{_≡_, refl, sym, ap, _∙_, subst}
-use mathlib.Core.Bool.{Bool, true, false}
 use mathlib.Core.Logic.{_≢_}
 use mathlib.Core.List.{List}
 use Prim.Native.Nat.{ℕ, zero, _+_, _*_, _/_, _%_, _^_, _≤_, _<_}
 use native.Mathlib.Nat.{lt-irrefl, mod-lt, one-le-pow}
 use native.Mathlib.Omega.{arith}
-use lib.Dec.{eqb, ltb, leb}
+use lib.Dec.{eqb, leb}
 use lib.ListN.{length}
 use borrow.Author.Tests.{eqb-true, leb-true, leb-false, lt-leb, le-leb, lt-ltb, le-ltb, eq-eqb, ne-eqb}
 use Rattle.lists.specs.Table.{at}
@@ -20,10 +19,9 @@ use Rattle.residue.proofs.Congruence.{pow-lt}
 use Rattle.recurrence.specs.Least.{Least}
 use Rattle.sequence.specs.declared.Refusal.the-variants as R
 use Rattle.sequence.specs.Rules.{firstLarge}
-use Rattle.period.specs.declared.Measured.{Measured}
 use Rattle.period.specs.declared.Measured.the-variants.{Length, Refused}
 use Rattle.period.specs.Halving.{halving, Binary}
-use Rattle.period.specs.Rules.{periods, maxPeriod, exponent, digitsIn, measured, periodLengthOf}
+use Rattle.period.specs.Rules.{periods, maxPeriod, exponent, digitsIn, periodLengthOf}
 use Rattle.period.proofs.Halving.{halving-same, halving-le}
 use Rattle.period.proofs.Loops.{power-small}
 use Rattle.period.proofs.Least.{least-repeated}
