@@ -5,6 +5,7 @@
 // as cells. The steps alone start from the modulus: they include its prime power and a check of the terms. The trace is the register with
 // its working: every record is read, and their numbers are added up. A column is pushed to a fresh sequence by one call and by single ones.
 // Two queries are merged by the C interface. FLINT merges at coprime moduli only, from terms in its own form.
+// The length of a binary sequence is found from one period by the C interface, and without that call from the terms of two.
 #include <NTL/lzz_pX.h>
 #include <diverthrone.h>
 #include <flint/flint.h>
@@ -14,6 +15,7 @@
 #include <algorithm>
 #include <cstdint>
 #include <cstdio>
+#include <cstdlib>
 #include <cstring>
 #include <ctime>
 #include <functional>
@@ -32,6 +34,8 @@ void tricks_register(uint32_t m, const uint32_t *s, int n, uint32_t *a, uint32_t
 uint64_t plain_read_line(const uint8_t *line, size_t len, uint8_t *query);
 uint64_t strtol_read_line(const char *line, uint8_t *query);
 uint64_t plain_merge(const uint8_t *first, size_t first_len, const uint8_t *second, size_t second_len, uint8_t *query, size_t query_len);
+uint64_t array_period_length(const uint8_t *cells, size_t cells_len);
+uint64_t word_period_length(const uint8_t *cells, size_t cells_len);
 }
 
 // A round times a batch of calls of each entry, all on the same sequences. Each round has other sequences and another order of the
@@ -61,7 +65,7 @@ struct Entry {
 };
 
 // Medians in microseconds for one call of each.
-static std::vector<double> measure(const std::vector<Entry> &entries, int rounds) {
+static std::vector<double> measure(const std::vector<Entry> &entries, int rounds, int batch = BATCH) {
     std::vector<std::vector<double>> times(entries.size());
     std::vector<size_t> order(entries.size());
     for (size_t i = 0; i < order.size(); i++) order[i] = i;
@@ -69,8 +73,8 @@ static std::vector<double> measure(const std::vector<Entry> &entries, int rounds
         for (size_t i = order.size(); i > 1; i--) std::swap(order[i - 1], order[below((uint32_t)i)]);
         for (size_t i : order) {
             double start = now();
-            for (int j = 0; j < BATCH; j++) entries[i].run((r * BATCH + j) % POOL);
-            times[i].push_back(1e6 * (now() - start) / BATCH);
+            for (int j = 0; j < batch; j++) entries[i].run((r * batch + j) % POOL);
+            times[i].push_back(1e6 * (now() - start) / batch);
         }
     }
     std::vector<double> medians;
@@ -368,6 +372,81 @@ static void merges() {
     }
 }
 
+// Each query of the pool is one period of `size` digits twice: the first `drawn` of them random and repeated to the period's end. With `apart`
+// the period's last digit is then the other one: two equal halves come to differ there alone, and so do the halves of their sum, and so on.
+static void prepare_periods(int size, int drawn, bool apart) {
+    prepare(2, 2 * size);
+    for (int j = 0; j < POOL; j++)
+        for (int i = 0; i < 2 * size; i++) {
+            uint32_t digit = terms[j][i % size % drawn] ^ (apart && i % size == size - 1);
+            terms[j][i] = digit, queries[j][4 + 2 * i] = (uint8_t)digit;
+        }
+}
+
+// One period, as the cells of the query's first half of terms.
+static const uint8_t *period(int j) { return queries[j] + 4; }
+
+// The length by every way that is timed.
+static bool lengths_agree(int size, int j) {
+    const size_t len = 2 * (size_t)size;
+    uint64_t reply = diverthrone_period_length(period(j), len), length = diverthrone_value(reply);
+    if (diverthrone_refusal(reply) || diverthrone_synthesize(queries[j], 260, record, RECORD)) return false;
+    if (reply != array_period_length(period(j), len) || reply != word_period_length(period(j), len)) return false;
+    if (length != diverthrone_cell(record + DIVERTHRONE_LENGTH_PLACE, 0) || length != (uint32_t)reg(2, 2 * size, j)) return false;
+    return timing_steps(2, terms[j], len, a, lens) && length == lens[len];
+}
+
+// The C versions refuse the same, so that they make the same checks: every number of bytes up to a query's, and at every place the digits
+// 2 and 256.
+static bool refusals_agree() {
+    static uint8_t cells[260];
+    auto same = [](size_t len) {
+        uint64_t reply = diverthrone_period_length(cells, len);
+        return reply == array_period_length(cells, len) && reply == word_period_length(cells, len);
+    };
+    for (size_t len = 0; len <= sizeof cells; len++)
+        if (!same(len)) return false;
+    for (size_t len = 2; len <= 128; len *= 2)
+        for (size_t i = 0; i < len; i++) {
+            cells[i] = i % 2 ? 1 : 2;
+            if (diverthrone_period_length(cells, len) != 3 + 256 * (i / 2) || !same(len)) return false;
+            cells[i] = 0;
+        }
+    return true;
+}
+
+// What a batch of nothing takes is taken off, as for merges. The batches are longer: 16 calls of C with a word took 100 ns for 8 digits, and
+// the clock went by tens.
+static void periods_of(int size, int drawn, bool apart, const char *kind) {
+    const size_t len = 2 * (size_t)size;
+    prepare_periods(size, drawn, apart);
+    for (int j = 0; j < POOL; j++)
+        if (!lengths_agree(size, j)) printf("%d, %s: DIFFER\n", size, kind), exit(1);
+    auto t = measure({{"period_length", [=](int j) { diverthrone_period_length(period(j), len); }},
+                      {"record", [](int j) { diverthrone_synthesize(queries[j], 260, record, RECORD); }},
+                      {"register", [=](int j) { reg(2, 2 * size, j); }},
+                      {"steps", [=](int j) { timing_steps(2, terms[j], len, a, lens); }},
+                      {"array", [=](int j) { array_period_length(period(j), len); }},
+                      {"word", [=](int j) { word_period_length(period(j), len); }},
+                      {"nothing", [](int) {}}},
+                     401, 64);
+    const double nothing = t.back();
+    for (double &x : t) x -= nothing;
+    printf("  %2d  %.4f  %.4f  %.4f  %.2f  %.2f  %.1f  %s\n", size, t[0] / t[1], t[0] / t[2], t[0] / t[3], t[0] / t[4], t[0] / t[5],
+           1e3 * t[0], kind);
+}
+
+static void periods() {
+    printf("period_length of so many digits: / record, / register, / steps without b of two periods, / C with an array, / C with a word, ns\n");
+    if (!refusals_agree()) printf("refusals DIFFER\n"), exit(1);
+    for (int size : {8, 16, 32, 64}) {
+        periods_of(size, size, false, "random");
+        periods_of(size, size / 2, false, "equal halves, each random");
+        periods_of(size, 1, false, "all digits equal");
+        periods_of(size, size / 2, true, "halves apart at the last digit alone");
+    }
+}
+
 int main() {
     primes();
     composites();
@@ -377,4 +456,5 @@ int main() {
     lines();
     columns();
     merges();
+    periods();
 }
