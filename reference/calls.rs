@@ -1,12 +1,13 @@
-//! The calls of document 01, and of requests A1 to A3, A5 and A7 to A9 in 02, on plain
+//! The calls of document 01, and of requests A1 to A3, A5 and A7 to A10 in 02, on plain
 //! values and byte buffers.
 //!
 //! "Order where several apply: 5, 21, 1, 2, 22, 3, 4, 6, 23, 24. Each call gives
 //! only those that concern what it is handed." 25 comes right before 6, 26 right
 //! after it, and only the 5 of a sheet comes after 21. 27 and 28 come after 5 and before
 //! 1, the one with the lower place. Of two slips the first has all of 1 to 4 before the
-//! second, and 29, 30, 31 follow. A refused call leaves every lent byte as it was, and a
-//! reading too, but for the terms that a column took before its refusal.
+//! second, and 29, 30, 31 follow. 32 comes after 5 and before 3. A refused call leaves every
+//! lent byte as it was, and a reading too, but for the terms that a column took before its
+//! refusal.
 
 use crate::join::{
     histories, profile as profile_of, register as register_of, register_after, sheet as sheet_of,
@@ -16,6 +17,7 @@ use crate::limits::*;
 use crate::lines;
 use crate::merge::{common_multiple, joined_term};
 use crate::only::{only, Only};
+use crate::period::halved_length;
 use crate::refusals::Refusal;
 use crate::steps::{product_coefficient, StepRecord};
 
@@ -315,6 +317,21 @@ pub fn merge(first: &[u8], second: &[u8], slip: &mut [u8]) -> Result<(), Refusal
     }
     slip.copy_from_slice(&slip_of(multiple, &joined));
     Ok(())
+}
+
+// ---- one period ----
+
+/// The length of the binary sequence that has these cells for one period: 5 (odd bytes), 32, 3
+/// with the first place. 02, A10: 32 "comes before 3, and 2 isn't given here", so 128 cells and
+/// more get 32 too.
+pub fn period_length(period: &[u8]) -> Result<usize, Refusal> {
+    demand(period.len() % CELL_BYTES == 0, Refusal::Buffer)?;
+    let digits = cells(period);
+    demand(PERIODS.contains(&digits.len()), Refusal::Period)?;
+    if let Some(place) = digits.iter().position(|&digit| digit > 1) {
+        return Err(Refusal::Term(place));
+    }
+    Ok(halved_length(&digits))
 }
 
 // ---- slips, records, shelf ----

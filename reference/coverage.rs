@@ -1,6 +1,6 @@
 //! What the random slips, scripts and typed lines meet: every refusal of every call, the
 //! places, the kinds of bad claims, of lines, of columns, of servings, of answers of A8, of
-//! merges, and how the orders stand to the starts. The seeds are those that
+//! merges, of periods, and how the orders stand to the starts. The seeds are those that
 //! tests/expectations.sh uses.
 
 use crate::ask::{self, ask, LINE_LIMIT};
@@ -15,6 +15,8 @@ use crate::listing::listing;
 use crate::merges;
 use crate::mergesmet;
 use crate::onlymet;
+use crate::periods;
+use crate::periodsmet;
 use crate::scenarios;
 use crate::script::{line, reading_bytes, replay, Call, Operation};
 use crate::sequences;
@@ -28,7 +30,7 @@ use std::collections::{BTreeMap, BTreeSet};
 const LEAST: usize = 3;
 
 /// The calls and the refusals that each has.
-const REFUSALS: [(&str, &[u32]); 14] = [
+const REFUSALS: [(&str, &[u32]); 15] = [
     ("open", &[1]),
     ("push", &[21, 22, 3]),
     ("register", &[5, 21]),
@@ -41,6 +43,7 @@ const REFUSALS: [(&str, &[u32]); 14] = [
     ("read_line", &[5, 27, 28, 1, 2]),
     ("push_all", &[5, 21, 22, 3]),
     ("merge", &[5, 1, 2, 3, 4, 29, 30, 31]),
+    ("period_length", &[5, 32, 3]),
     // A piece that is too short is put after the slips.
     ("listing", &[1, 2, 3, 4]),
     ("ask", &[5, 27, 28, 1, 2]),
@@ -61,6 +64,7 @@ pub fn met(group: &mut Group) {
         catalogues(14, 300),
         linecalls(15, 2000),
         merges::merges(16, 1500),
+        periods::periods(17, 600),
     ]
     .concat();
     let slips = sequences::slips(21, 2400);
@@ -79,9 +83,11 @@ pub fn met(group: &mut Group) {
     columns_met(group, &script);
     servings::met(group, &script);
     mergesmet::met(group, &script);
+    periodsmet::met(group, &script);
     // Those by hand have each kind; without them it takes more.
     servings::met(group, &rounds(14, 2000));
     mergesmet::met(group, &merges::rounds(16, 40000));
+    periodsmet::met(group, &periods::rounds(17, 40000));
 }
 
 /// The text with the name of its command before each line.
@@ -133,9 +139,10 @@ fn refusals_met(group: &mut Group, text: &str) {
 
 /// Every call that gives 3 has the least place, the largest and others, and so has 31.
 fn places_met(group: &mut Group, places: &Places) {
-    for (call, place) in
-        ["push", "push_all"].iter().flat_map(|call| [0, 1, 2, 10, 127].map(|place| (*call, place)))
-    {
+    let takings = ["push", "push_all"].into_iter();
+    let of_takings = takings.flat_map(|call| [0, 1, 2, 10, 127].map(|place| (call, place)));
+    let of_periods = [0, 1, 2, 31, 32, 63].map(|place| ("period_length", place));
+    for (call, place) in of_takings.chain(of_periods) {
         let times = places.get(&(call, 3, place)).copied().unwrap_or(0);
         often(group, times, || format!("{call} refused 3 at {place}"));
     }

@@ -28,6 +28,11 @@ pub fn offending(slip: &[u8]) -> Vec<usize> {
     (0..128).filter(|&i| (i as u64) < count && number_at(slip, 2 + i) >= m).collect()
 }
 
+/// Every place of a period, among its whole cells, whose digit is neither 0 nor 1 (02, A10).
+pub fn above_one(period: &[u8]) -> Vec<usize> {
+    (0..period.len() / 2).filter(|&i| number_at(period, i) > 1).collect()
+}
+
 /// A slip with several kinds of faults, or with noise for terms, also past the count.
 fn faulty_slip(random: &mut Random) -> Vec<u8> {
     let mut slip = good_slip(random);

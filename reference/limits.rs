@@ -1,4 +1,4 @@
-//! The limits and sizes of document 01 and of request A7 in 02, each in one place.
+//! The limits and sizes of document 01 and of requests A7 and A10 in 02, each in one place.
 
 /// "m from 2 to 4,095": the largest legal modulus. The arithmetic is wide
 /// enough for any value up to 65,535.
@@ -32,6 +32,9 @@ pub const RECORD_NUMBER_AT: usize = 776;
 
 /// 02, A7: "Serving is told 1 for an editor; any other number means a visitor."
 pub const EDITOR: u64 = 1;
+
+/// 02, A10: "period N = 1, 2, 4 up to 64, doubling"; "these seven".
+pub const PERIODS: [usize; 7] = [1, 2, 4, 8, 16, 32, 64];
 
 /// The step records of the longest sheet there can be: n times the sum of the e, and
 /// that sum is at most 15, because 2^16 is above 65,535.

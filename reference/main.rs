@@ -32,6 +32,11 @@ mod only;
 mod onlychecks;
 mod onlymet;
 mod orders;
+mod period;
+mod periodcases;
+mod periodchecks;
+mod periods;
+mod periodsmet;
 mod random;
 mod refusals;
 mod residue;
@@ -62,6 +67,7 @@ const USAGE: &str = "usage: reference COMMAND
   typed SEED COUNT        random typed lines
   linecalls SEED COUNT    a script of readings of typed lines
   merges SEED COUNT       a script of merges of two slips
+  periods SEED COUNT      a script of lengths of periods
   selftest                checks this program against itself and the papers
 ";
 
@@ -86,6 +92,7 @@ fn main() -> ExitCode {
         ["typed", seed, count] => generated(seed, count, typed::typed),
         ["linecalls", seed, count] => generated(seed, count, linecalls::linecalls),
         ["merges", seed, count] => generated(seed, count, merges::merges),
+        ["periods", seed, count] => generated(seed, count, periods::periods),
         ["selftest"] => ExitCode::from(u8::from(!selftest::selftest())),
         _ => usage(),
     }

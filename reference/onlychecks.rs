@@ -72,7 +72,7 @@ fn lists_of(m: u64, terms: &[u64], l: usize) -> Vec<Vec<u64>> {
 }
 
 /// Those of the least l that has some.
-fn shortest_lists(m: u64, terms: &[u64]) -> Vec<Vec<u64>> {
+pub fn shortest_lists(m: u64, terms: &[u64]) -> Vec<Vec<u64>> {
     let lengths = 0..=terms.len();
     let mut tried = lengths.map(|l| lists_of(m, terms, l));
     tried.find(|lists| !lists.is_empty()).expect("every list of n coefficients generates")
@@ -204,7 +204,7 @@ fn check_ranked(group: &mut Group, m: u64, terms: &[u64], l: usize) {
 
 /// The rank modulo a prime of the equations for l coefficients, of which each place from l on
 /// gives one, and whether there is a solution.
-fn ranked(m: u64, terms: &[u64], l: usize) -> (usize, bool) {
+pub fn ranked(m: u64, terms: &[u64], l: usize) -> (usize, bool) {
     let mut rows: Vec<Vec<u64>> =
         (l..terms.len()).map(|j| terms[j - l..=j].iter().rev().copied().collect()).collect();
     // The right side, which is the term at the place itself, comes first.

@@ -31,6 +31,7 @@ pub fn orders(group: &mut Group) {
     orders_of_lines(group);
     orders_of_columns(group);
     orders_of_merges(group);
+    orders_of_periods(group);
 }
 
 /// Each kind of fault for itself, with its number and place.
@@ -304,6 +305,30 @@ fn orders_of_merges(group: &mut Group) {
     }
 }
 
+/// 02, A10: "an odd number of bytes gets 5", and 32 "comes before 3", which is at the middle of
+/// each of the seven periods and at the last place.
+fn orders_of_periods(group: &mut Group) {
+    for size in [1, 2, 4, 8, 16, 32, 64] {
+        let order = [bare(5), bare(32), term_at(size / 2)];
+        for (other, less) in [3 * size, 63, 65, 128].into_iter().flat_map(|n| [(n, 0), (n, 2)]) {
+            every_set(group, "a period", &order, |with| {
+                let count = if with(32) { other } else { size };
+                let mut period = bytes_of(&[1, 0, 0, 1], count);
+                if with(3) {
+                    set_cell(&mut period, count - 1, 65535);
+                    set_cell(&mut period, count / 2, 2);
+                }
+                if with(5) {
+                    // One byte more, or one less.
+                    period.push(1);
+                    period.truncate(period.len() - less);
+                }
+                period_length(&period)
+            });
+        }
+    }
+}
+
 // ---- each kind of fault ----
 
 /// Each refusal has its number in the papers, 3, 27, 28 and 31 alone have a place, and the
@@ -331,6 +356,7 @@ fn numbers_and_words(group: &mut Group) {
         (Refusal::Multiple, bare(30), "refused 30"),
         (Refusal::Disagreement(0), (31, Some(0)), "refused 31 at 0"),
         (Refusal::Disagreement(127), (31, Some(127)), "refused 31 at 127"),
+        (Refusal::Period, bare(32), "refused 32"),
     ];
     for (refusal, expected, words) in all {
         group.check(told::<()>(Err(refusal)) == Err(expected), || format!("{refusal:?}"));

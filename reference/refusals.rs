@@ -1,4 +1,4 @@
-//! The refusals of 01 and of 02 as far as A9, with their numbers and the place that
+//! The refusals of 01 and of 02 as far as A10, with their numbers and the place that
 //! a 3, a 27, a 28 or a 31 carries.
 
 use std::fmt;
@@ -14,7 +14,7 @@ pub enum Refusal {
     TooMany,
     /// 3: "one of the terms is not below the modulus", with the first such place,
     /// "counted from 0 (for a single term, the reading's count)"; for a term of a column
-    /// "the reading's count at that moment".
+    /// "the reading's count at that moment". 02, A10: "a digit above 1 gets 3".
     Term(usize),
     /// 4: "a slip holds something other than zero past its count".
     Padding,
@@ -48,6 +48,8 @@ pub enum Refusal {
     Multiple,
     /// 31: "two terms disagree modulo the common divisor, with the first place".
     Disagreement(usize),
+    /// 32: "the period is none of these seven".
+    Period,
 }
 
 impl Refusal {
@@ -71,6 +73,7 @@ impl Refusal {
             Refusal::Counts => 29,
             Refusal::Multiple => 30,
             Refusal::Disagreement(_) => 31,
+            Refusal::Period => 32,
         }
     }
 

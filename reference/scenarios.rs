@@ -345,7 +345,7 @@ pub fn candidate(random: &mut Random) -> Candidate {
     candidate
 }
 
-fn cells_of(numbers: &[u64]) -> Vec<u8> {
+pub fn cells_of(numbers: &[u64]) -> Vec<u8> {
     numbers.iter().flat_map(|&number| (number as u16).to_le_bytes()).collect()
 }
 

@@ -23,9 +23,10 @@ pub enum Operation {
     ReadLine = 10,
     PushAll = 11,
     Merge = 12,
+    PeriodLength = 13,
 }
 
-const OPERATIONS: [(Operation, &str); 13] = [
+const OPERATIONS: [(Operation, &str); 14] = [
     (Operation::Open, "open"),
     (Operation::Push, "push"),
     (Operation::Register, "register"),
@@ -39,6 +40,7 @@ const OPERATIONS: [(Operation, &str); 13] = [
     (Operation::ReadLine, "read_line"),
     (Operation::PushAll, "push_all"),
     (Operation::Merge, "merge"),
+    (Operation::PeriodLength, "period_length"),
 ];
 
 /// One call of a script. `number` is the modulus, the term, the l of a test, who asks in
@@ -63,7 +65,8 @@ impl Call {
             Operation::Synthesize
             | Operation::Forge
             | Operation::ReadLine
-            | Operation::PushAll => [true, false, false],
+            | Operation::PushAll
+            | Operation::PeriodLength => [true, false, false],
             _ => [false, false, false],
         }
     }
@@ -174,7 +177,7 @@ pub fn replay(script: &[u8]) -> (String, bool) {
 }
 
 /// The name, the reply, and a hash for each writable thing that was lent, and for a column
-/// of the list too, which "still keeps its content".
+/// of the list too, which "still keeps its content", as do the cells of a period.
 pub fn line(call: &Call, reading: &mut Reading) -> String {
     let mut buffers = call.buffers();
     let reply = match perform(call, reading, &mut buffers) {
@@ -183,10 +186,10 @@ pub fn line(call: &Call, reading: &mut Reading) -> String {
     };
     let [first, second, third] = &buffers;
     let held = reading_bytes(reading);
-    let writable: Vec<&Vec<u8>> = match call.operation {
+    let hashed: Vec<&Vec<u8>> = match call.operation {
         Operation::Open | Operation::Push | Operation::Forge => vec![&held],
         Operation::Register => vec![first, second],
-        Operation::Profile => vec![first],
+        Operation::Profile | Operation::PeriodLength => vec![first],
         Operation::Verify => vec![],
         Operation::Generate | Operation::LookUp | Operation::Merge => vec![third],
         Operation::Synthesize | Operation::ReadLine => vec![second],
@@ -194,7 +197,7 @@ pub fn line(call: &Call, reading: &mut Reading) -> String {
         Operation::PushAll => vec![&held, first],
     };
     let mut line = format!("{} {}", OPERATIONS[call.operation as usize].1, reply);
-    for bytes in writable {
+    for bytes in hashed {
         line.push_str(&format!(" {:08x}", hash(bytes)));
     }
     line
@@ -236,6 +239,7 @@ fn perform(
         Operation::ReadLine => calls::read_line(first, second).map(ok),
         Operation::PushAll => Ok(column_word(calls::push_all(reading, first))),
         Operation::Merge => calls::merge(first, second, third).map(ok),
+        Operation::PeriodLength => calls::period_length(first).map(length_word),
     }
 }
 
@@ -263,6 +267,10 @@ pub fn record_bytes(record: StepRecord) -> Vec<u8> {
 
 fn reported_word((length, only): Reported) -> String {
     format!("length {length} {only}")
+}
+
+fn length_word(length: usize) -> String {
+    format!("length {length}")
 }
 
 /// A refused column too tells how many were taken.

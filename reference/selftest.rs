@@ -23,6 +23,9 @@ use crate::mergechecks;
 use crate::merges;
 use crate::onlychecks;
 use crate::orders;
+use crate::periodcases;
+use crate::periodchecks;
+use crate::periods;
 use crate::random::Random;
 use crate::refusals::Refusal;
 use crate::residue::{inverse, prime_powers};
@@ -35,7 +38,7 @@ use crate::steps::{self, coefficient, length, Pair};
 use crate::typed;
 
 /// The groups in the order in which they run.
-const GROUPS: [(&str, fn(&mut Group)); 51] = [
+const GROUPS: [(&str, fn(&mut Group)); 58] = [
     ("cases 1 to 15", cases::cases),
     ("tables 1 and 2 of 000", cases::tables),
     ("sheets and their text by hand", cases::sheets_by_hand),
@@ -87,6 +90,13 @@ const GROUPS: [(&str, fn(&mut Group)); 51] = [
     ("merges, 12 and 18 at length", mergechecks::twelve_and_eighteen),
     ("merges of merged slips", mergechecks::again),
     ("merges, moduli to 65,535", mergechecks::wide),
+    ("periods by hand", periodcases::by_hand),
+    ("periods, the halving and the steps", periodchecks::by_steps),
+    ("periods, the halving and linear algebra", periodchecks::by_algebra),
+    ("periods, any number of terms from two on", periodchecks::more_terms),
+    ("periods, whose register is the only one", periodchecks::only_one),
+    ("periods, random ones by their bytes", periodchecks::by_bytes),
+    ("periods turned, added and doubled", periodchecks::related),
 ];
 
 /// True if every group passes.
@@ -352,8 +362,9 @@ fn scripts(group: &mut Group) {
     scripts_of_lines(group);
     scripts_of_catalogues(group);
     scripts_of_merges(group);
+    scripts_of_periods(group);
     group.check(replay(&[]) == (String::new(), true), || String::from("no calls"));
-    group.check(replay(&[13; 16]).0 == "script unknown 13\n", || String::from("unknown"));
+    group.check(replay(&[14; 16]).0 == "script unknown 14\n", || String::from("unknown"));
     listings(group);
 }
 
@@ -417,6 +428,26 @@ fn scripts_of_merges(group: &mut Group) {
     }
     let size = merges::merges(16, 1500).len();
     group.check(size < 1_200_000, || format!("{size} bytes of merges"));
+}
+
+/// Every script of periods has those by hand in front; it is below 300,000 bytes with the count
+/// of tests/expectations.sh.
+fn scripts_of_periods(group: &mut Group) {
+    let by_hand = periods::periods(0, 0);
+    let lines = replay(&by_hand).0.lines().count();
+    group.check(lines == 833, || format!("{lines} periods by hand"));
+    for seed in 0..4 {
+        let script = periods::periods(seed, 60);
+        group.check(script == periods::periods(seed, 60), || format!("periods {seed}: bytes"));
+        let random = periods::rounds(seed, 60);
+        let right = script == [&by_hand[..], &random].concat();
+        group.check(right, || format!("periods {seed}: by hand, then random"));
+        let (text, whole) = replay(&random);
+        let named = text.lines().all(|line| line.starts_with("period_length "));
+        group.check(whole && named && text.lines().count() == 60, || text.clone());
+    }
+    let size = periods::periods(17, 600).len();
+    group.check(size < 300_000, || format!("{size} bytes of periods"));
 }
 
 /// The listing of random slips and of pieces of every size.

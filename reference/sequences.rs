@@ -235,7 +235,7 @@ fn put_fault(random: &mut Random, slip: &mut [u8]) {
 
 /// Places for terms out of range, of which 3 tells the first: one at the start, at the
 /// end or anywhere, or several, so that the first is not the last.
-fn wrong_places(random: &mut Random, count: usize) -> Vec<usize> {
+pub fn wrong_places(random: &mut Random, count: usize) -> Vec<usize> {
     let any = random.place(count);
     match random.below(8) {
         0 => vec![0],
