@@ -246,8 +246,8 @@ fn kinds_of_size(digits: &[u64]) -> Kinds {
 }
 
 fn kinds_of_wrong(digits: &[u64], places: &[usize]) -> Kinds {
-    let (size, place) = (digits.len(), places[0]);
-    let digit = digits[place];
+    let Some(&place) = places.first() else { return Vec::new() };
+    let (size, digit) = (digits.len(), digits[place]);
     let known = [2, 3, 65535].contains(&digit);
     let larger = places.iter().any(|&other| digits[other] > digit);
     let ends = size > 1;

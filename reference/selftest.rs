@@ -93,7 +93,7 @@ const GROUPS: [(&str, fn(&mut Group)); 58] = [
     ("periods by hand", periodcases::by_hand),
     ("periods, the halving and the steps", periodchecks::by_steps),
     ("periods, the halving and linear algebra", periodchecks::by_algebra),
-    ("periods, any number of terms from two on", periodchecks::more_terms),
+    ("periods, any number of terms from two of them on", periodchecks::more_terms),
     ("periods, whose register is the only one", periodchecks::only_one),
     ("periods, random ones by their bytes", periodchecks::by_bytes),
     ("periods turned, added and doubled", periodchecks::related),

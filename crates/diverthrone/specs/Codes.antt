@@ -8,7 +8,7 @@ use Rattle.sequence.specs.Answers.{Answer}
 abbrev pub lastPlace : ℕ
 lastPlace = 72057594037927935
 
--- With a refusal the value is the place itself; without one it is what `told` makes of it. No value is 0.
+-- With a refusal the value is the place itself, up to the last that fits; without one it is what `told` makes of the value. 0 where there is none.
 abbrev pub valueBy : (ℕ → ℕ) → ℕ → List ℕ → ℕ
 valueBy told n [] = 0
 valueBy told zero (v ∷ vs) = told v

@@ -3,13 +3,13 @@
 use mathlib.Core.Path.{_≡_, refl, sym, ap, _∙_, subst}
 use mathlib.Core.Bool.{Bool, true, false}
 use mathlib.Core.Logic.{inl, inr}
-use mathlib.Core.List.{List, [], _∷_, _++_, map}
+use mathlib.Core.List.{List, [], _∷_, _++_, map, append-assoc, append-nil}
 use Prim.Native.Nat.{ℕ, zero, suc, _+_, _/_, _%_, _≤_, _<_}
 use native.Mathlib.Nat.{not-suc-le-zero}
 use native.Mathlib.Decide.{ℕ-discrete}
 use native.Mathlib.Omega.{arith}
-use lib.ListN.{length, take}
-use lib.Seq.{take-all}
+use lib.ListN.{length, take, length-append}
+use borrow.Author.Tests.{lt-ltb, eq-eqb}
 use Rattle.lists.specs.Table.{at}
 use Rattle.lists.proofs.Table.{is-tabulate}
 use Rattle.cells.specs.Cell.{cellAt, bytesOf}
@@ -24,9 +24,9 @@ use Rattle.sequence.proofs.Laws.{refused-done, sound-of, push-kept}
 use Rattle.column.specs.declared.PushedAll.{PushedAll}
 use Rattle.column.specs.Rules.{termsIn, took, onward, eachOf, pushAllOf}
 use Rattle.column.proofs.Laws.{each-none, each-push, each-by, column-odd, column-unsound, column-each}
-use Rattle.guarantees.specs.Calls.{Call, push, pushAll, after, afterAll, takenFrom, taken}
+use Rattle.guarantees.specs.Calls.{Call, push, pushAll, after, afterAll, takesEach, takenFrom, taken}
 use Rattle.guarantees.specs.Columns.{Ends, all, full, large, Takes, afterFirst, EndsSingly, Singly, takenThen, StandsFor, EveryColumn}
-use Rattle.guarantees.proofs.State.{taken-held, after-sound, after-modulus, after-count, column-joined}
+use Rattle.guarantees.proofs.State.{taken-held, after-sound, after-count, column-joined}
 
 -- ---- by the terms
 
@@ -150,6 +150,14 @@ stands-for m least most calls list rest =
 
 -- ---- a whole column
 
+-- a column of terms below m is taken whole where there is room
+pub each-whole : (m : ℕ) (us ts : List ℕ) → ((j : ℕ) → j < length us → at us j < m) → length ts + length us ≤ maxTerms → takesEach m ts us ≡ ts ++ us
+unfolding takesEach
+each-whole m [] ts below room = sym (append-nil ts)
+each-whole m (t ∷ us) ts below room =
+    rw (lt-ltb t m (below zero (omega arith)), lt-ltb (length ts) maxTerms (omega arith))
+    (each-whole m us (ts ++ (t ∷ [])) (λ j h. below (suc j) (omega arith)) (omega (arith, length-append ts (t ∷ []))) ∙ append-assoc ts (t ∷ []) us)
+
 -- the terms of a column are those that were written
 terms-back : (ts : List ℕ) → ((j : ℕ) → j < length ts → at ts j < 65536) → termsIn (bytesOf ts) ≡ ts
 terms-back ts small =
@@ -161,25 +169,11 @@ module _ (m : ℕ) (least : 2 ≤ m) (most : m ≤ maxModulus) (ts : List ℕ) (
   back : termsIn (bytesOf ts) ≡ ts
   back = terms-back ts (λ j h. omega (arith, below j h))
 
-  -- no term is refused
-  all-taken : {r : PushedAll} → Ends (openOf m .sequence) ts r → r .taken ≡ length ts
-  unfolding afterAll takenFrom
-  all-taken (all e o) = e
-  all-taken (full l e o) = omega (arith, after-count m least most [])
-  all-taken (large l h b o) = omega (arith, below _ l, after-modulus m least most [])
-
-  number : takenThen m [] (bytesOf ts) ≡ length ts
-  unfolding afterAll
-  number =
-      let even : length (bytesOf ts) % 2 ≡ zero = omega (arith, length-bytesOf ts) in
-      let s = openOf m .sequence in
-      let sound = after-sound m least most [] in
-      ap (λ (r : PushedAll). r .taken) (column-each s (bytesOf ts) even sound ∙ ap (eachOf s) back)
-      ∙ all-taken (each-takes s ts sound .ends)
-
   whole : taken m (pushAll (bytesOf ts) ∷ []) ≡ ts
   unfolding takenFrom
-  whole = column-joined m least most [] (bytesOf ts) ∙ ap (take (takenThen m [] (bytesOf ts))) back ∙ take-all (takenThen m [] (bytesOf ts)) ts (omega (arith, number))
+  whole =
+      rw (eq-eqb (length (bytesOf ts) % 2) 0 (omega (arith, length-bytesOf ts)))
+      (ap (takesEach m []) back ∙ each-whole m ts [] below (omega arith))
 
 pub every-column : EveryColumn
 every-column =

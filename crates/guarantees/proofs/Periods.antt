@@ -2,14 +2,14 @@
 -- Assumes nothing.
 use mathlib.Core.Path.{_≡_, refl, sym, ap, _∙_, subst}
 use mathlib.Core.Logic.{_⊎_, inl, inr}
-use mathlib.Core.List.{List, [], _∷_, _++_, append-assoc, append-nil}
+use mathlib.Core.List.{List, [], _++_}
 use Prim.Native.Nat.{ℕ, zero, suc, _+_, _*_, _-_, _/_, _%_, _^_, _≤_, _<_}
-use native.Mathlib.Nat.{mod-eq-of-lt, add-mul-mod-self-right, mul-le-mul-right, one-le-pow}
+use native.Mathlib.Nat.{mod-lt, mod-eq-of-lt, add-mul-mod-self-right, mul-le-mul-right, one-le-pow}
 use native.Mathlib.Decide.{decLt, ℕ-discrete}
 use native.Mathlib.Omega.{arith}
 use lib.ListN.{length, replicate, length-replicate, length-append, List·getD-append}
 use lib.Seq.{getD-append-add}
-use borrow.Author.Tests.{lt-ltb, eq-eqb}
+use borrow.Author.Tests.{eq-eqb}
 use Rattle.lists.specs.Table.{at}
 use Rattle.lists.specs.Search.{first}
 use Rattle.lists.proofs.Search.{lt-or-le}
@@ -30,6 +30,7 @@ use Rattle.sequence.specs.Limits.{maxTerms, aBytes, bBytes, profileBytes}
 use Rattle.sequence.specs.Rules.{firstLarge, openOf, checkOf}
 use Rattle.sequence.specs.Report.{uniquenessOf, reportOf}
 use Rattle.sequence.proofs.OnlyOne.{said-sole}
+use Rattle.sequence.proofs.Query.{query-modulus, query-passes}
 use Rattle.column.specs.Rules.{termsIn}
 use Rattle.catalogue.specs.Rules.{recordBytes}
 use Rattle.period.specs.declared.Measured.{Measured}
@@ -40,21 +41,14 @@ use Rattle.period.proofs.Laws as L
 use Rattle.period.proofs.Answers.{period-told}
 use Rattle.diverthrone.specs.Codes.{lengthCodeOf}
 use Rattle.diverthrone.proofs.Laws.{length-valued, length-refused}
-use Rattle.guarantees.specs.Calls.{Call, pushAll, afterAll, takesEach, takes, takenFrom, taken}
+use Rattle.guarantees.specs.Calls.{Call, pushAll, afterAll, takes, takenFrom, taken}
 use Rattle.guarantees.specs.Claims.{ShownBy, Demand3, termsOf, profileCell, lengthMade}
-use Rattle.guarantees.specs.Periods.{IsPeriod, Digits, Reason, odd, other, digit, told, Repeats, WholePeriods, DeskLength, Measures, BinaryPeriods}
+use Rattle.guarantees.specs.Periods.{IsPeriod, Digits, Reason, odd, other, digit, told, Repeats, WholePeriods, WrittenQuery, DeskLength, Measures, BinaryPeriods}
+use Rattle.guarantees.proofs.Columns.{each-whole}
 use Rattle.guarantees.proofs.Demand.{demand}
-use Rattle.guarantees.proofs.Shown.{count-is, made-least}
+use Rattle.guarantees.proofs.Shown.{count-is, made-least, query-terms}
 
 -- ---- whole periods, lent as columns
-
--- a column of terms below m is taken whole where there is room
-each-whole : (m : ℕ) (us ts : List ℕ) → ((j : ℕ) → j < length us → at us j < m) → length ts + length us ≤ maxTerms → takesEach m ts us ≡ ts ++ us
-unfolding takesEach
-each-whole m [] ts below room = sym (append-nil ts)
-each-whole m (t ∷ us) ts below room =
-    rw (lt-ltb t m (below zero (omega arith)), lt-ltb (length ts) maxTerms (omega arith))
-    (each-whole m us (ts ++ (t ∷ [])) (λ j h. below (suc j) (omega arith)) (omega (arith, length-append ts (t ∷ []))) ∙ append-assoc ts (t ∷ []) us)
 
 module _ (cells : List ℕ) (n : ℕ) (size : length cells ≡ 2 * n) (small : Digits cells n) (some : zero < n) where
   -- p periods are taken
@@ -110,7 +104,7 @@ module _ (cells : List ℕ) (n : ℕ) (size : length cells ≡ 2 * n) (small : D
 -- ---- the length that is told
 
 -- the period as the laws of the call have it
-law-period : {cells : List ℕ} {n w : ℕ} → IsPeriod cells n w → L.IsPeriod cells w
+law-period : {cells : List ℕ} {n w : ℕ} → IsPeriod cells n w → L.Sized cells w
 law-period p = record { below = p .below; size = omega (arith, p .size, p .power) }
 
 module _ (cells : List ℕ) (n w : ℕ) (p : IsPeriod cells n w) (small : Digits cells n) where
@@ -131,7 +125,7 @@ module _ (cells : List ℕ) (n w : ℕ) (p : IsPeriod cells n w) (small : Digits
       at-power (λ z. 2 * z ≤ k → ((j : ℕ) → j < k → at ts j ≡ cellAt cells (j % z)) → Least 2 (at ts) k (halving w (cellsFrom cells 0 z)))
       (L.length-least (law-period p) small-power (at ts) k) enough (λ j b. r .each j (omega arith))
 
-  -- it is at most the period, so that twice of it is at most two periods
+  -- twice of it is at most two periods, so that the register is the only one
   short : l ≤ n
   short = at-power (λ z. halving w (cellsFrom cells 0 z) ≤ z) (L.length-short (law-period p) small-power)
 
@@ -169,18 +163,36 @@ module _ (cells : List ℕ) (n w : ℕ) (p : IsPeriod cells n w) (small : Digits
       (subst (λ (m : ℕ). Least m (at (termsOf query)) (cellAt query 1) (lengthMade query out)) two (made-least query fine out h))
       (least-length (termsOf query) (cellAt query 1) r (omega (arith, r .twice, count-is query fine)) (omega (arith, count-is query fine)))
 
+  some : zero < n
+  some = omega (arith, p .power, one-le-pow w 2 (omega arith))
+
+  -- the terms are digits
+  repeats-below : (ts : List ℕ) → Repeats cells n ts → (j : ℕ) → j < length ts → at ts j < 2
+  repeats-below ts r j h = subst (λ (x : ℕ). x < 2) (sym (r .each j h)) (small (j % n) (mod-lt j some))
+
+  written : (ts : List ℕ) → Repeats cells n ts → length ts ≤ maxTerms → WrittenQuery ts
+  written ts r few =
+      let below = repeats-below ts r in
+      record {
+        passes = query-passes 2 ts (omega arith) (omega arith) few below;
+        modulus = query-modulus 2 ts (omega arith) (omega arith) few below;
+        terms = query-terms 2 ts (omega arith) (omega arith) few below;
+      }
+
   whole : (q : ℕ) → 2 ≤ q → q * n ≤ maxTerms → WholePeriods cells n q
-  whole = whole-periods cells n (p .size) small (omega (arith, p .power, one-le-pow w 2 (omega arith)))
+  whole = whole-periods cells n (p .size) small some
 
   pub desk-length : DeskLength cells n l
   desk-length =
       record {
+        short = short;
         least = least-length;
         reported = λ calls a b r. reported calls r a b;
         profiled = λ calls lent k r. profiled calls r lent k;
         made = made;
         whole = whole;
         two = whole 2 (omega arith) (omega (arith, L.period-small (law-period p), p .power));
+        written = written;
       }
 
 -- ---- the reason of each reply

@@ -2,10 +2,10 @@
 -- Assumes nothing.
 use mathlib.Core.Path.{_≡_, sym, ap, _∙_, subst}
 use mathlib.Core.List.{List, [], map}
-use Prim.Native.Nat.{ℕ, zero, _≤_}
+use Prim.Native.Nat.{ℕ, zero, _≤_, _<_}
 use native.Mathlib.Omega.{arith}
 use lib.ListN.{length, replicate, length-replicate}
-use lib.Seq.{getD-take}
+use lib.Seq.{getD-take, ext-getD}
 use Rattle.lists.specs.Table.{at}
 use Rattle.cells.specs.Cell.{cellAt}
 use Rattle.residue.proofs.Congruence.{of-eq}
@@ -16,8 +16,10 @@ use Rattle.recurrence.proofs.Register.{complexity-is-least, complexity-same}
 use Rattle.sequence.specs.declared.Outcome.the-variants.{Done}
 use Rattle.sequence.specs.declared.Reported.{Reported}
 use Rattle.sequence.specs.declared.Reported.the-variants as P
-use Rattle.sequence.specs.Limits.{aBytes, bBytes, profileBytes}
-use Rattle.sequence.specs.Rules.{openOf, sequenceOf, checkOf}
+use Rattle.sequence.specs.Limits.{maxModulus, maxTerms, aBytes, bBytes, profileBytes}
+use Rattle.sequence.specs.Rules.{openOf, queryOf, sequenceOf, checkOf}
+use Rattle.sequence.proofs.Laws.{term-cell}
+use Rattle.sequence.proofs.Query.{query-count, query-term, query-passes}
 use Rattle.catalogue.specs.Rules.{recordBytes}
 use Rattle.guarantees.specs.Calls.{Call, push, afterAll, taken}
 use Rattle.guarantees.specs.Claims.{ShownBy, Demand3, MadeServedReported, termsOf, profileCell, lengthMade}
@@ -87,3 +89,16 @@ module _ (query : List ℕ) (fine : checkOf query ≡ Done) where
 
       size : length cells ≡ profileBytes
       size = length-replicate {A = ℕ} profileBytes 0
+
+-- the terms of a query that is written by hand are those written
+pub query-terms :
+    (m : ℕ) (ts : List ℕ) → 2 ≤ m → m ≤ maxModulus → length ts ≤ maxTerms → ((j : ℕ) → j < length ts → at ts j < m) → termsOf (queryOf m ts) ≡ ts
+unfolding sequenceOf
+query-terms m ts least most few below =
+    ext-getD 0 (termsOf (queryOf m ts)) ts long
+    (λ i h. let k : i < length ts = omega (arith, long) in
+    getD-take (cellAt (queryOf m ts) 1) (sequenceOf (queryOf m ts) .terms) i 0 (omega (arith, query-count m ts least most few below))
+    ∙ term-cell (queryOf m ts) i (omega arith) ∙ query-term m ts least most few below i (omega arith))
+  where
+    long : length (termsOf (queryOf m ts)) ≡ length ts
+    long = count-is (queryOf m ts) (query-passes m ts least most few below) ∙ query-count m ts least most few below

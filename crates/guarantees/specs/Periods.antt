@@ -15,7 +15,7 @@ use Rattle.sequence.specs.declared.Uniqueness.the-variants.{Sole}
 use Rattle.sequence.specs.declared.Reported.the-variants as P
 use Rattle.sequence.specs.Limits.{maxTerms, aBytes, bBytes, profileBytes}
 use Rattle.sequence.specs.Answers.{refusal}
-use Rattle.sequence.specs.Rules.{openOf, checkOf}
+use Rattle.sequence.specs.Rules.{openOf, checkOf, queryOf}
 use Rattle.sequence.specs.Report.{reportOf}
 use Rattle.catalogue.specs.Rules.{recordBytes}
 use Rattle.period.specs.declared.Measured.{Measured}
@@ -61,8 +61,16 @@ pub record WholePeriods (cells : List ℕ) (n q : ℕ) : Type 0 where
   pub size : length (taken 2 (replicate q (pushAll cells))) ≡ q * n
   pub repeats : Repeats cells n (taken 2 (replicate q (pushAll cells)))
 
+-- the query that is written by hand for terms modulo 2: it meets no refusal, and has these terms
+pub record WrittenQuery (ts : List ℕ) : Type 0 where
+  pub passes : checkOf (queryOf 2 ts) ≡ Done
+  pub modulus : cellAt (queryOf 2 ts) 0 ≡ 2
+  pub terms : termsOf (queryOf 2 ts) ≡ ts
+
 -- l is the length that the desk gives modulo 2 for such terms
 pub record DeskLength (cells : List ℕ) (n l : ℕ) : Type 0 where
+  -- it is at most the period
+  pub short : l ≤ n
   -- it is the least length for the first k of them, for every k from two periods on
   pub least : (ts : List ℕ) (k : ℕ) → Repeats cells n ts → 2 * n ≤ k → k ≤ length ts → Least 2 (at ts) k l
   -- after every list of calls that takes such terms the register replies it, and that it is the only one
@@ -79,6 +87,8 @@ pub record DeskLength (cells : List ℕ) (n l : ℕ) : Type 0 where
   -- there are such calls, for every number of whole periods from two on that fits; two always do
   pub whole : (q : ℕ) → 2 ≤ q → q * n ≤ maxTerms → WholePeriods cells n q
   pub two : WholePeriods cells n 2
+  -- and such queries, for as many terms as fit
+  pub written : (ts : List ℕ) → Repeats cells n ts → length ts ≤ maxTerms → WrittenQuery ts
 
 pub record Measures (cells : List ℕ) : Type 0 where
   -- what is replied has its reason, and what has a reason is replied

@@ -76,7 +76,7 @@ pub record PushPlaced (m n : ℕ) (s : Sequence) (t : ℕ) : Type 0 where
   pub told-large : (i : ℕ) → pushOf s t .outcome ≡ O.Refused (R.Term i) → (n < maxTerms) × (m ≤ t) × (i ≡ n)
   pub large-told : n < maxTerms → m ≤ t → pushOf s t .outcome ≡ O.Refused (R.Term n)
 
--- every call that replies 3, but for a column, of which Columns says it, and a merger, of which Merging does; and a query that is clean passes its checks, which is what the claims about records and about testing ask
+-- every call that replies 3, but for a column, of which Columns says it, a merger, of which Merging does, and a period, of which Periods does; and a query that is clean passes its checks, which is what the claims about records and about testing ask
 pub record EveryPlace : Type 0 where
   pub passed-clean : (query : List ℕ) → checkOf query ≡ O.Done → Clean query
   pub clean-passed : (query : List ℕ) → Clean query → checkOf query ≡ O.Done

@@ -117,6 +117,15 @@ all-false (suc n) p (suc j) h e = go (p zero) (all-false n (λ i. p (suc i)) j (
     go true q = q
     go false q = refl
 
+-- tests that agree below n are passed by all or by not all
+pub all-same : (n : ℕ) (p q : ℕ → Bool) → ((j : ℕ) → j < n → p j ≡ q j) → all n p ≡ all n q
+unfolding all
+all-same zero p q e = refl
+all-same (suc n) p q e =
+    let first : p zero ≡ q zero = e zero (omega arith) in
+    let later = all-same n (λ i. p (suc i)) (λ i. q (suc i)) (λ j l. e (suc j) (omega arith)) in
+    λ i. elim (first i) as (λ z. Bool) [ true ↦ later i | false ↦ false ]
+
 pub all-at : (n : ℕ) (p : ℕ → Bool) → all n p ≡ true → (j : ℕ) → j < n → p j ≡ true
 unfolding all
 all-at zero p h j k = absurd (omega arith)

@@ -14,15 +14,15 @@ use lib.ListN.{length}
 use borrow.Author.Tests.{eq-eqb, eqb-true}
 use Rattle.lists.specs.Choice.{pick}
 use Rattle.lists.specs.Table.{at, tabulate}
-use Rattle.lists.specs.Search.{all}
 use Rattle.lists.proofs.Table.{length-tabulate, at-tabulate, tabulate-eq, at-past}
-use Rattle.lists.proofs.Search.{all-true, all-at, false-true}
+use Rattle.lists.proofs.Search.{all-true, all-at, all-same, false-true}
 use Rattle.residue.specs.Congruence.{Cong}
 use Rattle.residue.proofs.Congruence.{rfl, of-eq, sy, tr, add, modulo, zero-add-zero}
-use Rattle.recurrence.proofs.Series.{shift, const, shift-below, shift-from}
+use Rattle.recurrence.proofs.Series.{shift, const, shift-below, shift-from, shift-add}
 use Rattle.recurrence.proofs.Pairs.{Vanish}
+use Rattle.recurrence.proofs.Trace.{shift-cong}
 use Rattle.period.specs.Halving.{equalHalves, firstHalf, halvesSum, halving, Binary}
-use Rattle.period.proofs.Powers.{Δ, Δs, odd, shift-add, shift-cong, Δs-cong, Δs-add, Δs-Δs, Δs-vanish, Δs-zero, twice, power-two}
+use Rattle.period.proofs.Powers.{Δ, Δs, onePlus, Δs-cong, Δs-add, Δs-Δs, Δs-vanish, Δs-zero, twice, power-two}
 
 -- a period of n digits with length c that is not 0 throughout
 pub record Shape (n : ℕ) (s : List ℕ) (c : ℕ) : Type 0 where
@@ -32,7 +32,7 @@ pub record Shape (n : ℕ) (s : List ℕ) (c : ℕ) : Type 0 where
   pub size : v + c ≡ n
   pub positive : c ≡ suc γ
   pub short : Vanish 2 γ τ
-  pub form : (i : ℕ) → Cong 2 (at s i) (Δs v (odd τ) i)
+  pub form : (i : ℕ) → Cong 2 (at s i) (Δs v (onePlus τ) i)
 
 abbrev pub Result : ℕ → List ℕ → ℕ → Type 0
 Result n s c = (((i : ℕ) → Cong 2 (at s i) zero) × (c ≡ zero)) ⊎ Shape n s c
@@ -41,8 +41,8 @@ Result n s c = (((i : ℕ) → Cong 2 (at s i) zero) × (c ≡ zero)) ⊎ Shape 
 past : (n : ℕ) (f : ℕ → ℕ) (i : ℕ) → n ≤ i → at (tabulate n f) i ≡ zero
 past n f i h = at-past (tabulate n f) i (omega (arith, length-tabulate n f))
 
-odd-add : (τ f : ℕ → ℕ) (i : ℕ) → odd (λ j. τ j + f j) i ≡ odd τ i + Δ f i
-odd-add τ f i = omega (arith, shift-add 1 τ f i)
+onePlus-add : (τ f : ℕ → ℕ) (i : ℕ) → onePlus (λ j. τ j + f j) i ≡ onePlus τ i + Δ f i
+onePlus-add τ f i = omega (arith, shift-add 1 τ f i)
 
 module _ (w : ℕ) (s : List ℕ) (size : length s ≡ 2 ^ suc w) (bits : Binary (2 ^ suc w) s) where
   abbrev h : ℕ
@@ -84,7 +84,7 @@ module _ (w : ℕ) (s : List ℕ) (size : length s ≡ 2 ^ suc w) (bits : Binary
 
   equal-form : ((i : ℕ) → i < h → at s i ≡ at s (h + i)) → (i : ℕ) → Cong 2 (at s i) (Δs h (at first) i)
   equal-form same i =
-      tr (of-eq (apart i)) (tr (add (rfl {a = at first i}) (shift-cong h (at second) (at first) equal i)) (sy (power-two w (at first) i)))
+      tr (of-eq (apart i)) (tr (add (rfl {a = at first i}) (shift-cong h (at second) (at first) i (λ l. equal (i - h)))) (sy (power-two w (at first) i)))
     where
       equal : (j : ℕ) → Cong 2 (at second j) (at first j)
       equal j = go (decLt j h)
@@ -104,7 +104,7 @@ module _ (w : ℕ) (s : List ℕ) (size : length s ≡ 2 ^ suc w) (bits : Binary
         size = omega (arith, S .size, two-pow-succ w);
         positive = S .positive;
         short = S .short;
-        form = λ i. tr (equal-form same i) (tr (Δs-cong h (at first) (Δs (S .v) (odd (S .τ))) (S .form) i) (of-eq (sym (Δs-Δs h (S .v) (h + S .v) (odd (S .τ)) i refl))));
+        form = λ i. tr (equal-form same i) (tr (Δs-cong h (at first) (Δs (S .v) (onePlus (S .τ))) (S .form) i) (of-eq (sym (Δs-Δs h (S .v) (h + S .v) (onePlus (S .τ)) i refl))));
       })
 
   -- ---- other halves: s is their sum and (1 + x)^h times the second
@@ -140,8 +140,8 @@ module _ (w : ℕ) (s : List ℕ) (size : length s ≡ 2 ^ suc w) (bits : Binary
         form =
             λ i. tr (other-form i)
             (tr (add (S .form i) (of-eq (Δs-Δs (S .v) (suc (S .γ)) h (at second) i (omega (arith, S .size, S .positive)))))
-            (tr (of-eq (sym (Δs-add (S .v) (odd (S .τ)) (Δs (suc (S .γ)) (at second)) i)))
-            (Δs-cong (S .v) (λ j. odd (S .τ) j + Δs (suc (S .γ)) (at second) j) (odd τ) (λ j. of-eq (sym (odd-add (S .τ) (Δs (S .γ) (at second)) j))) i)));
+            (tr (of-eq (sym (Δs-add (S .v) (onePlus (S .τ)) (Δs (suc (S .γ)) (at second)) i)))
+            (Δs-cong (S .v) (λ j. onePlus (S .τ) j + Δs (suc (S .γ)) (at second) j) (onePlus τ) (λ j. of-eq (sym (onePlus-add (S .τ) (Δs (S .γ) (at second)) j))) i)));
       })
     where
       τ : ℕ → ℕ
@@ -162,7 +162,7 @@ shape zero s size bits = start (at s zero) refl
     all-zero e zero = of-eq e
     all-zero e (suc i) = of-eq (rest i)
 
-    one : at s zero ≡ 1 → (i : ℕ) → Cong 2 (at s i) (odd (λ j. zero) i)
+    one : at s zero ≡ 1 → (i : ℕ) → Cong 2 (at s i) (onePlus (λ j. zero) i)
     one e zero = of-eq e
     one e (suc i) = of-eq (rest i)
 
@@ -188,15 +188,6 @@ shape (suc w) s size bits =
         (halving w (halvesSum (2 ^ w) s)) r₂
 
 -- ---- what a program relies on
-
--- tests that agree below n
-all-same : (n : ℕ) (p q : ℕ → Bool) → ((j : ℕ) → j < n → p j ≡ q j) → all n p ≡ all n q
-unfolding all
-all-same zero p q e = refl
-all-same (suc n) p q e =
-    let first : p zero ≡ q zero = e zero (omega arith) in
-    let later = all-same n (λ i. p (suc i)) (λ i. q (suc i)) (λ j l. e (suc j) (omega arith)) in
-    λ i. elim (first i) as (λ z. Bool) [ true ↦ later i | false ↦ false ]
 
 -- the first 2^w digits alone count
 pub halving-same : (w : ℕ) (s t : List ℕ) → ((i : ℕ) → i < 2 ^ w → at s i ≡ at t i) → halving w s ≡ halving w t

@@ -42,23 +42,23 @@ power-exponent w h =
 
 -- ---- the digits
 
--- the first n cells are digits: none is above 1
-abbrev pub Digits : List ℕ → ℕ → Type 0
-Digits cells n = (j : ℕ) → j < n → cellAt cells j < 2
+-- none of the first n cells is above 1
+abbrev pub BelowTwo : List ℕ → ℕ → Type 0
+BelowTwo cells n = (j : ℕ) → j < n → cellAt cells j < 2
 
 module _ (cells : List ℕ) (n : ℕ) where
-  pub digits-none : n ≤ firstLarge 2 (cellsFrom cells 0 n) n → Digits cells n
+  pub digits-none : n ≤ firstLarge 2 (cellsFrom cells 0 n) n → BelowTwo cells n
   digits-none h j l =
       subst (λ (x : ℕ). x < 2) (at-cells cells n j l)
       (leb-false 2 (at (cellsFrom cells 0 n) j) (first-none n (λ i. leb 2 (at (cellsFrom cells 0 n) i)) h j l))
 
-  pub none-digits : Digits cells n → firstLarge 2 (cellsFrom cells 0 n) n ≡ n
+  pub none-digits : BelowTwo cells n → firstLarge 2 (cellsFrom cells 0 n) n ≡ n
   none-digits small =
       none-first n (λ i. leb 2 (at (cellsFrom cells 0 n) i))
       (λ j l. lt-leb 2 (at (cellsFrom cells 0 n) j) (subst (λ (x : ℕ). x < 2) (sym (at-cells cells n j l)) (small j l)))
 
   -- i is the first place of one above 1
-  pub is-large : (i : ℕ) → i < n → 2 ≤ cellAt cells i → Digits cells i → i ≡ firstLarge 2 (cellsFrom cells 0 n) n
+  pub is-large : (i : ℕ) → i < n → 2 ≤ cellAt cells i → BelowTwo cells i → i ≡ firstLarge 2 (cellsFrom cells 0 n) n
   is-large i h large before =
       is-first n (λ i. leb 2 (at (cellsFrom cells 0 n) i)) i (omega arith)
       (λ j l. lt-leb 2 (at (cellsFrom cells 0 n) j) (subst (λ (x : ℕ). x < 2) (sym (at-cells cells n j (omega arith))) (before j l)))
@@ -70,7 +70,7 @@ module _ (cells : List ℕ) (n : ℕ) where
       subst (λ (x : ℕ). 2 ≤ x) (at-cells cells n (firstLarge 2 (cellsFrom cells 0 n) n) h)
       (leb-true 2 (at (cellsFrom cells 0 n) (firstLarge 2 (cellsFrom cells 0 n) n)) (first-passes n (λ i. leb 2 (at (cellsFrom cells 0 n) i)) h))
 
-  pub large-before : Digits cells (firstLarge 2 (cellsFrom cells 0 n) n)
+  pub large-before : BelowTwo cells (firstLarge 2 (cellsFrom cells 0 n) n)
   large-before j l =
       subst (λ (x : ℕ). x < 2) (at-cells cells n j (omega (arith, first-le n (λ i. leb 2 (at (cellsFrom cells 0 n) i)))))
       (leb-false 2 (at (cellsFrom cells 0 n) j) (first-before n (λ i. leb 2 (at (cellsFrom cells 0 n) i)) j l))
@@ -119,12 +119,12 @@ module _ (cells : List ℕ) where
 
 -- ---- the cases, by what is lent
 
--- the cells are one of the seven periods
-pub record IsPeriod (cells : List ℕ) (w : ℕ) : Type 0 where
+-- there are 2^w cells, one of the seven periods
+pub record Sized (cells : List ℕ) (w : ℕ) : Type 0 where
   pub below : w < periods
   pub size : length cells ≡ 2 * 2 ^ w
 
-module _ {cells : List ℕ} {w : ℕ} (p : IsPeriod cells w) where
+module _ {cells : List ℕ} {w : ℕ} (p : Sized cells w) where
   half : length cells / 2 ≡ 2 ^ w
   half = omega (arith, p .size)
 
@@ -141,27 +141,27 @@ module _ {cells : List ℕ} {w : ℕ} (p : IsPeriod cells w) where
   pub period-small : 2 ^ w ≤ maxPeriod
   period-small = power-small w (p .below)
 
-  pub large-told : (i : ℕ) → i < 2 ^ w → 2 ≤ cellAt cells i → Digits cells i → periodLengthOf cells ≡ Refused (R.Term i)
+  pub large-told : (i : ℕ) → i < 2 ^ w → 2 ≤ cellAt cells i → BelowTwo cells i → periodLengthOf cells ≡ Refused (R.Term i)
   large-told i h large before =
       sym (reply-digit cells even w told (p .below) i (is-large cells (length cells / 2) i (omega (arith, half)) large before) (omega (arith, half)))
 
-  pub length-told : Digits cells (2 ^ w) → periodLengthOf cells ≡ Length (halving w (cellsFrom cells 0 (2 ^ w)))
+  pub length-told : BelowTwo cells (2 ^ w) → periodLengthOf cells ≡ Length (halving w (cellsFrom cells 0 (2 ^ w)))
   length-told small =
       sym (reply-length cells even w told (p .below) (length cells / 2)
       (sym (none-digits cells (length cells / 2) (λ j l. small j (omega (arith, half))))) (omega arith) (cellsFrom cells 0 (2 ^ w))
       (λ j l. at-cells cells (2 ^ w) j (omega (arith, half))) (halving w (cellsFrom cells 0 (2 ^ w))) refl)
 
-  binary : Digits cells (2 ^ w) → Binary (2 ^ w) (cellsFrom cells 0 (2 ^ w))
-  binary small j l = subst (λ (x : ℕ). x < 2) (sym (at-cells cells (2 ^ w) j l)) (small j l)
+  cells-binary : BelowTwo cells (2 ^ w) → Binary (2 ^ w) (cellsFrom cells 0 (2 ^ w))
+  cells-binary small j l = subst (λ (x : ℕ). x < 2) (sym (at-cells cells (2 ^ w) j l)) (small j l)
 
   -- it is at most the period
-  pub length-short : Digits cells (2 ^ w) → halving w (cellsFrom cells 0 (2 ^ w)) ≤ 2 ^ w
-  length-short small = halving-le w (cellsFrom cells 0 (2 ^ w)) (binary small)
+  pub length-short : BelowTwo cells (2 ^ w) → halving w (cellsFrom cells 0 (2 ^ w)) ≤ 2 ^ w
+  length-short small = halving-le w (cellsFrom cells 0 (2 ^ w)) (cells-binary small)
 
   -- and it is the least length for terms that repeat the cells, two periods of them or more
-  pub length-least : Digits cells (2 ^ w) → (T : ℕ → ℕ) (k : ℕ) → 2 * 2 ^ w ≤ k → ((j : ℕ) → j < k → T j ≡ cellAt cells (j % 2 ^ w))
+  pub length-least : BelowTwo cells (2 ^ w) → (T : ℕ → ℕ) (k : ℕ) → 2 * 2 ^ w ≤ k → ((j : ℕ) → j < k → T j ≡ cellAt cells (j % 2 ^ w))
       → Least 2 T k (halving w (cellsFrom cells 0 (2 ^ w)))
   length-least small T k enough same =
       least-repeated w (cellsFrom cells 0 (2 ^ w)) (length-tabulate (2 ^ w) (λ i. cellAt cells (0 + i)))
-      (binary small) T k (omega arith)
+      (cells-binary small) T k (omega arith)
       (λ j l. same j l ∙ sym (at-cells cells (2 ^ w) (j % 2 ^ w) (mod-lt j (one-le-pow w 2 (omega arith)))))

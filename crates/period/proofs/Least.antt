@@ -14,11 +14,11 @@ use Rattle.residue.specs.Congruence.{Cong}
 use Rattle.residue.proofs.Congruence.{rfl, of-eq, sy, tr, zero-add-zero}
 use Rattle.recurrence.specs.Polynomial.{conv}
 use Rattle.recurrence.specs.Least.{Least}
-use Rattle.recurrence.proofs.Series.{shift, const, conv-comm, shift-below, shift-from}
+use Rattle.recurrence.proofs.Series.{shift, const, conv-comm, conv-one, shift-below, shift-from}
 use Rattle.recurrence.proofs.Pairs.{Deg, Agree, conv-cong, vanish}
 use Rattle.recurrence.proofs.Length.{least-same, least-of-pair}
 use Rattle.period.specs.Halving.{halving, Binary}
-use Rattle.period.proofs.Powers.{Δs, odd, Δs-cong, Δs-below, Δs-Δs, Δs-vanish, Δs-zero, Δs-first, Δs-conv, Δs-inj, conv-one, const-vanish, twice, power-two, descent}
+use Rattle.period.proofs.Powers.{Δs, onePlus, Δs-cong, Δs-below, Δs-Δs, Δs-vanish, Δs-zero, Δs-first, Δs-conv, Δs-inj, const-vanish, twice, power-two, descent}
 use Rattle.period.proofs.Halving.{Result, shape}
 
 -- the sequence with the period s
@@ -51,7 +51,7 @@ module _ (w : ℕ) (s : List ℕ) (size : length s ≡ 2 ^ w) (bits : Binary (2 
 
   upper-b : (c : ℕ) → Result N s c → ℕ → ℕ
   upper-b c (inl z) = λ i. zero
-  upper-b c (inr R) = odd (R .τ)
+  upper-b c (inr R) = onePlus (R .τ)
 
   upper-lead : (c : ℕ) (r : Result N s c) → Cong 2 (upper-a c r zero) 1
   unfolding upper-a const
@@ -66,7 +66,7 @@ module _ (w : ℕ) (s : List ℕ) (size : length s ≡ 2 ^ w) (bits : Binary (2 
   upper-agree c (inr R) k j l =
       tr (of-eq (conv-comm S (Δs c (const 1)) j ∙ Δs-conv c (const 1) S j))
       (tr (Δs-cong c (conv (const 1) S) S (λ i. of-eq (conv-one S i)) j)
-      (Δs-inj {q = 2} (omega arith) (R .v) (Δs c S) (odd (R .τ))
+      (Δs-inj {q = 2} (omega arith) (R .v) (Δs c S) (onePlus (R .τ))
       (λ i. tr (of-eq (sym (Δs-Δs (R .v) c N S i (omega (arith, R .size))))) (tr (killed i) (R .form i))) j))
 
   upper-deg : (c : ℕ) (r : Result N s c) → Deg 2 c (upper-a c r) (upper-b c r)
@@ -95,11 +95,11 @@ module _ (w : ℕ) (s : List ℕ) (size : length s ≡ 2 ^ w) (bits : Binary (2 
               tr (vanish (at s) a N (suc l) i (λ j q. of-eq (at-past s j (omega (arith, size)))) (deg .top-a) (omega arith))
               (sy (Δs-vanish N b l (deg .top-b) i (omega arith)))
 
-          whole : (i : ℕ) → Cong 2 (conv (odd (R .τ)) a i) (Δs c b i)
+          whole : (i : ℕ) → Cong 2 (conv (onePlus (R .τ)) a i) (Δs c b i)
           whole =
-              Δs-inj {q = 2} (omega arith) (R .v) (conv (odd (R .τ)) a) (Δs c b)
-              (λ i. tr (of-eq (sym (Δs-conv (R .v) (odd (R .τ)) a i)))
-              (tr (conv-cong (Δs (R .v) (odd (R .τ))) (at s) a a i (λ j q. sy (R .form j)) (λ j q. rfl))
+              Δs-inj {q = 2} (omega arith) (R .v) (conv (onePlus (R .τ)) a) (Δs c b)
+              (λ i. tr (of-eq (sym (Δs-conv (R .v) (onePlus (R .τ)) a i)))
+              (tr (conv-cong (Δs (R .v) (onePlus (R .τ))) (at s) a a i (λ j q. sy (R .form j)) (λ j q. rfl))
               (tr (product i (decLt i (N + N))) (of-eq (Δs-Δs (R .v) c N b i (omega (arith, R .size)))))))
 
   -- the halving gives the least length, for two periods and for any more terms

@@ -68,6 +68,14 @@ fn equal_halves(digits: &[u32; MAX_PERIOD], h: usize) -> bool
     true
 }
 
+// The sum of two digits modulo 2.
+fn sum(x: u32, y: u32) -> u32
+    requires { ⌜ (x < 2) × (y < 2) ⌝ }
+    ensures { λ r. ⌜ r ≡ (x + y) % 2 ⌝ }
+{
+    residue::remainder((x + y) as u64, 2)
+}
+
 // The sum of the halves modulo 2 in the first h places.
 fn add_halves(digits: &mut [u32; MAX_PERIOD], h: usize)
     requires { ⌜ (2 * h ≤ maxPeriod) × (length (now digits) ≡ maxPeriod) × Binary (2 * h) (now digits) ⌝ }
@@ -76,14 +84,15 @@ fn add_halves(digits: &mut [u32; MAX_PERIOD], h: usize)
 {
     let mut j: usize = 0;
     while j < h {
-        digits[j] = (digits[j] + digits[h + j]) % 2;
+        let x = sum(digits[j], digits[h + j]);
+        digits[j] = x;
         j += 1;
     }
 }
 
 // One comparison of the halves of the first `size` digits: leaves what to go on with in the first half, and says what to add to the total.
-fn step(digits: &mut [u32; MAX_PERIOD], w: usize, size: usize) -> u32
-    requires { ⌜ (w < 6) × (size ≡ 2 ^ suc w) × (length (now digits) ≡ maxPeriod) × Binary size (now digits) ⌝ }
+fn halve_once(digits: &mut [u32; MAX_PERIOD], w: usize, size: usize) -> u32
+    requires { ⌜ (suc w < periods) × (size ≡ 2 ^ suc w) × (length (now digits) ≡ maxPeriod) × Binary size (now digits) ⌝ }
     ensures { λ r. ⌜ (r ≤ size) × (length (now (digits .exit)) ≡ maxPeriod) × Binary (size / 2) (now (digits .exit))
         × (r + halving w (now (digits .exit)) ≡ halving (suc w) (now (digits .entry))) ⌝ }
 {
@@ -95,17 +104,17 @@ fn step(digits: &mut [u32; MAX_PERIOD], w: usize, size: usize) -> u32
     h as u32
 }
 
-// The length for the first n = 2^exponent digits.
-fn halve(digits: &mut [u32; MAX_PERIOD], exponent: usize, n: usize) -> u32
-    requires { ⌜ (exponent < periods) × (n ≡ 2 ^ exponent) × (length (now digits) ≡ maxPeriod) × Binary n (now digits) ⌝ }
-    ensures { λ r. ⌜ r ≡ halving exponent (now (digits .entry)) ⌝ }
+// The length for the first n = 2^e digits.
+fn halve(digits: &mut [u32; MAX_PERIOD], e: usize, n: usize) -> u32
+    requires { ⌜ (e < periods) × (n ≡ 2 ^ e) × (length (now digits) ≡ maxPeriod) × Binary n (now digits) ⌝ }
+    ensures { λ r. ⌜ r ≡ halving e (now (digits .entry)) ⌝ }
 {
-    let mut w = exponent;
+    let mut w = e;
     let mut size = n;
     let mut total: u32 = 0;
     while 0 < w {
         w -= 1;
-        total += step(digits, w, size);
+        total += halve_once(digits, w, size);
         size = size / 2;
     }
     let last = digits[0];

@@ -86,6 +86,29 @@ shift-from zero f n h = ap f (omega arith)
 shift-from (suc s) f zero h = absurd (omega arith)
 shift-from (suc s) f (suc n) h = shift-from s f n (omega arith) ∙ ap f (omega arith)
 
+-- sums and shifts of shifted series
+pub shift-add : (t : ℕ) (f g : ℕ → ℕ) (i : ℕ) → shift t (λ j. f j + g j) i ≡ shift t f i + shift t g i
+unfolding shift
+shift-add zero f g i = refl
+shift-add (suc t) f g zero = omega arith
+shift-add (suc t) f g (suc i) = shift-add t f g i
+
+pub shift-shift : (t u : ℕ) (f : ℕ → ℕ) (i : ℕ) → shift t (shift u f) i ≡ shift (t + u) f i
+unfolding shift
+shift-shift zero u f i = ap (λ (z : ℕ). shift z f i) (let e : u ≡ zero + u = omega arith in e)
+shift-shift (suc t) u f zero = ap (λ (z : ℕ). shift z f zero) (let e : suc (t + u) ≡ suc t + u = omega arith in e)
+shift-shift (suc t) u f (suc i) = shift-shift t u f i ∙ ap (λ (z : ℕ). shift z f (suc i)) (let e : suc (t + u) ≡ suc t + u = omega arith in e)
+
+-- 1 times a series
+pub conv-one : (f : ℕ → ℕ) (n : ℕ) → conv (const 1) f n ≡ f n
+unfolding conv const
+conv-one f zero = omega arith
+conv-one f (suc n) = omega (arith, none f n)
+  where
+    none : (g : ℕ → ℕ) (n : ℕ) → conv (λ i. zero) g n ≡ zero
+    none g zero = omega arith
+    none g (suc n) = omega (arith, none g n)
+
 -- the product as a sum that a loop adds up
 abbrev pub summand : (ℕ → ℕ) → (ℕ → ℕ) → ℕ → ℕ → ℕ
 summand f g k i = f i * g (k - i)

@@ -80,14 +80,14 @@ deg-mono : {q l m : ℕ} {a b : ℕ → ℕ} → l ≤ m → Deg q l a b → Deg
 deg-mono h x = record { top-a = λ i k. x .top-a i (omega arith); top-b = λ i k. x .top-b i (omega arith) }
 
 -- a congruence of shifted series, asked for only where they have started
-shift-cong : {q : ℕ} (s : ℕ) (f g : ℕ → ℕ) (n : ℕ) → (s ≤ n → Cong q (f (n - s)) (g (n - s))) → Cong q (shift s f n) (shift s g n)
+pub shift-cong : {q : ℕ} (s : ℕ) (f g : ℕ → ℕ) (n : ℕ) → (s ≤ n → Cong q (f (n - s)) (g (n - s))) → Cong q (shift s f n) (shift s g n)
 shift-cong {q} s f g n h = pick (decLe s n)
   where
     pick : Dec (s ≤ n) → Cong q (shift s f n) (shift s g n)
     pick (yes k) = tr (of-eq (shift-from s f n k)) (tr (h k) (of-eq (sym (shift-from s g n k))))
     pick (no f′) = tr (of-eq (shift-below s f n (omega arith))) (of-eq (sym (shift-below s g n (omega arith))))
 
-shift-zero : {q : ℕ} (s : ℕ) (f : ℕ → ℕ) (n : ℕ) → (s ≤ n → Cong q (f (n - s)) zero) → Cong q (shift s f n) zero
+pub shift-zero : {q : ℕ} (s : ℕ) (f : ℕ → ℕ) (n : ℕ) → (s ≤ n → Cong q (f (n - s)) zero) → Cong q (shift s f n) zero
 shift-zero {q} s f n h = pick (decLe s n)
   where
     pick : Dec (s ≤ n) → Cong q (shift s f n) zero

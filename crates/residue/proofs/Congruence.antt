@@ -109,6 +109,14 @@ cancel {q} {x} {y} pos h =
     (tr (add rfl (sy (add-neg x pos)))
     (tr (of-eq (let w : y + (x + neg q x) ≡ x + y + neg q x = omega arith in w)) (tr (add h rfl) (add-neg x pos))))
 
+-- a summand on both sides
+pub cancel-right : {q : ℕ} (x y z : ℕ) → zero < q → Cong q (x + z) (y + z) → Cong q x y
+cancel-right {q} x y z pos h = tr (sy (kept x)) (tr (add h (rfl {a = neg q z})) (kept y))
+  where
+    kept : (u : ℕ) → Cong q (u + z + neg q z) u
+    kept u =
+        tr (of-eq (let e : u + z + neg q z ≡ u + (z + neg q z) = omega arith in e)) (tr (add (rfl {a = u}) (add-neg z pos)) (of-eq (omega arith)))
+
 -- a congruence modulo a product holds modulo each factor
 pub cong-left : (q r : ℕ) {x y : ℕ} → Cong (q * r) x y → Cong q x y
 cong-left q r {x} {y} h =

@@ -43,8 +43,8 @@ pub struct Sequence {
     pub terms: [u32; TERMS],
 }
 
-// Why a call was not done, or the rest of a column. `Answers.refusal` has the paper's number of each. A wrong term has its place, counted from 0, and so have the
-// byte that breaks a typed line's form, the digit that passes its range, and two terms that disagree.
+// Why a call was not done, or the rest of a column. `Answers.refusal` has the paper's number of each. A wrong term, or digit of a period, has its place, counted from 0, and
+// so have the byte that breaks a typed line's form, the digit that passes its range, and two terms that disagree.
 pub enum Refusal {
     Modulus,
     Count,

@@ -1,8 +1,6 @@
 -- `period::add_halves` meets its contract: below j stands the sum, and from j on what was lent.
 -- Assumes nothing.
-use mathlib.Core.Path.{refl}
 use Prim.Native.Nat.{_-_}
-use native.Mathlib.Omega.{arith}
 use borrow.Author.Needs.{needs}
 use Rattle.period.proofs.Loops.{Summed, summed-none, summed-more, summed-digits, summed-all}
 use Rattle.period.proofs.add_halves.Statement.{statement}
@@ -17,28 +15,28 @@ abbrev μ-loop : tie.MeasureT-loop
 loop-holds : tie.Need-loop-holds Inv-loop μ-loop
 loop-holds c = summed-none (c .pre .1)
 
+mul-sum : tie.Need-mul-sum Inv-loop μ-loop
+mul-sum c = search needs
+
+element-copy-out-sum : tie.Need-element-copy-out-sum Inv-loop μ-loop
+element-copy-out-sum c = search needs
+
+add-sum : tie.Need-add-sum Inv-loop μ-loop
+add-sum c = search needs
+
+mul-sum-2 : tie.Need-mul-sum-2 Inv-loop μ-loop
+mul-sum-2 c = search needs
+
+element-copy-out-sum-2 : tie.Need-element-copy-out-sum-2 Inv-loop μ-loop
+element-copy-out-sum-2 c = search needs
+
+sum-requires : tie.Need-sum-requires Inv-loop μ-loop
+sum-requires c κs =
+    let l = c .before .before .before .loop in
+    summed-digits (l .inv) (c .before .before .loop-test .taken) (c .before .before .before .before .pre .2)
+
 mul-digits : tie.Need-mul-digits Inv-loop μ-loop
 mul-digits c = search needs
-
-element-copy-out-digits : tie.Need-element-copy-out-digits Inv-loop μ-loop
-element-copy-out-digits c = search needs
-
-add-digits : tie.Need-add-digits Inv-loop μ-loop
-add-digits c = search needs
-
-mul-digits-2 : tie.Need-mul-digits-2 Inv-loop μ-loop
-mul-digits-2 c = search needs
-
-element-copy-out-digits-2 : tie.Need-element-copy-out-digits-2 Inv-loop μ-loop
-element-copy-out-digits-2 c = search needs
-
-add-digits-2 : tie.Need-add-digits-2 Inv-loop μ-loop
-add-digits-2 c =
-    let l = c .before .before .before .loop in
-    omega (arith, summed-digits (l .inv) (c .before .before .loop-test .taken) (c .before .before .before .before .pre .2))
-
-mul-digits-3 : tie.Need-mul-digits-3 Inv-loop μ-loop
-mul-digits-3 c = search needs
 
 element-write-digits : tie.Need-element-write-digits Inv-loop μ-loop
 element-write-digits c = search needs
@@ -51,8 +49,8 @@ loop-less c = search needs
 
 loop-again : tie.Need-loop-again Inv-loop μ-loop
 loop-again c =
-    let l = c .before .before .before .loop in
-    summed-more _ (l .inv) (c .before .before .loop-test .taken) (c .before .before .before .before .pre .0) refl
+    let l = c .before .before .before .before .loop in
+    summed-more _ (l .inv) (c .before .before .before .loop-test .taken) (c .before .before .before .before .before .pre .0) (c .sum .ensures)
 
 returns : tie.Need-returns Inv-loop μ-loop
 returns c =
@@ -66,13 +64,13 @@ add-halves-spec =
     Inv-loop
     μ-loop
     loop-holds
+    mul-sum
+    element-copy-out-sum
+    add-sum
+    mul-sum-2
+    element-copy-out-sum-2
+    sum-requires
     mul-digits
-    element-copy-out-digits
-    add-digits
-    mul-digits-2
-    element-copy-out-digits-2
-    add-digits-2
-    mul-digits-3
     element-write-digits
     add-j
     loop-less

@@ -8,10 +8,10 @@ use Rattle.period.proofs.halve.Statement.{statement}
 use Rattle.period.proofs.halve.Tie as tie
 
 abbrev Inv-loop : tie.InvT-loop
-Inv-loop digits₀ exponent n w₀ size₀ total₀ digits w size total = Going digits₀ exponent digits w size total
+Inv-loop digits₀ e n w₀ size₀ total₀ digits w size total = Going digits₀ e digits w size total
 
 abbrev μ-loop : tie.MeasureT-loop
-μ-loop digits₀ exponent n w₀ size₀ total₀ digits w size total = w
+μ-loop digits₀ e n w₀ size₀ total₀ digits w size total = w
 
 loop-holds : tie.Need-loop-holds Inv-loop μ-loop
 loop-holds c = going-start _ (c .pre .1) (c .pre .2) (c .pre .3)
@@ -19,8 +19,8 @@ loop-holds c = going-start _ (c .pre .1) (c .pre .2) (c .pre .3)
 sub-w : tie.Need-sub-w Inv-loop μ-loop
 sub-w c = search needs
 
-step-requires : tie.Need-step-requires Inv-loop μ-loop
-step-requires c κs =
+halve-once-requires : tie.Need-halve-once-requires Inv-loop μ-loop
+halve-once-requires c κs =
     let l = c .before .before .loop in
     let z = c .before .before .before in
     (omega (arith, l .inv .within, z .pre .0), power-is _ _ (c .before .loop-test .taken) (l .inv .power), l .inv .long, l .inv .digits)
@@ -29,7 +29,7 @@ add-total : tie.Need-add-total Inv-loop μ-loop
 add-total c =
     let l = c .before .before .before .loop in
     let z = c .before .before .before .before in
-    omega (arith, going-small _ (l .inv) (z .pre .0) (z .pre .1) (z .pre .3), c .step .ensures .0)
+    omega (arith, going-small _ (l .inv) (z .pre .0) (z .pre .1) (z .pre .3), c .halve-once .ensures .0)
 
 loop-less : tie.Need-loop-less Inv-loop μ-loop
 loop-less c = search needs
@@ -37,7 +37,7 @@ loop-less c = search needs
 loop-again : tie.Need-loop-again Inv-loop μ-loop
 loop-again c =
     let l = c .before .before .before .loop in
-    going-next _ _ (l .inv) (c .before .before .loop-test .taken) (c .step .ensures .1) (c .step .ensures .2) (c .step .ensures .3)
+    going-next _ _ (l .inv) (c .before .before .loop-test .taken) (c .halve-once .ensures .1) (c .halve-once .ensures .2) (c .halve-once .ensures .3)
 
 element-copy-out-last : tie.Need-element-copy-out-last Inv-loop μ-loop
 element-copy-out-last c = search needs
@@ -59,7 +59,7 @@ halve-spec =
     μ-loop
     loop-holds
     sub-w
-    step-requires
+    halve-once-requires
     add-total
     loop-less
     loop-again
