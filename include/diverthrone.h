@@ -111,10 +111,10 @@ uint64_t diverthrone_merge(const uint8_t *first, size_t first_len, const uint8_t
                            size_t query_len);
 
 /* Finds the least length modulo 2 of a sequence that repeats a period. A period is 1, 2, 4, 8, 16, 32 or 64 digits, each 0 or 1, lent once as
- * cells of two bytes, which are only read; it need not be the shortest one. 1,0,0,1,1,0,1,0 over and over has length 7.
+ * cells of two bytes, low byte first, which are only read; it need not be the shortest one. 1,0,0,1,1,0,1,0 over and over has length 7.
  * Value: the length itself, 0 to 64, not 1 + the length.
  * It is the least length of two whole periods and of any more terms of the sequence, so the length in the record of such a query with the
- * modulus 2. Terms fewer than two periods may have a smaller one: 1,0,1,0 has length 2, and 1,0 alone 1.
+ * modulus 2. Fewer terms than two periods may have a smaller one: 1,0,1,0 has length 2, and 1,0 alone 1.
  * Refusals in order: 5 (an odd number of bytes), 32, 3. The refusal 2 is not given: more than 128 cells get 32, as 0 and 128 do. */
 uint64_t diverthrone_period_length(const uint8_t *cells, size_t cells_len);
 
