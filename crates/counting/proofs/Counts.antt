@@ -1,26 +1,48 @@
--- A count by a numbering of what passes.
+-- Counts: one number more, and by a numbering of what passes.
 -- Assumes nothing.
 use mathlib.Core.Path.{_≡_, refl, sym, ap, _∙_}
 use mathlib.Core.Logic.{_≢_}
 use mathlib.Core.Bool.{Bool, true, false}
-use Prim.Native.Nat.{ℕ, zero, _<_}
+use Prim.Native.Nat.{ℕ, zero, _+_, _≤_, _<_}
+use native.Mathlib.Decide.{ℕ-discrete}
+use native.Mathlib.Omega.{arith}
 use lib.Dec.{eqb}
 use borrow.Author.Tests.{eq-eqb, ne-eqb}
 use Rattle.lists.specs.Choice.{pick}
 use Rattle.lists.specs.Sum.{sumTo}
-use Rattle.lists.proofs.Sum.{sumTo-eq, sumTo-zeros, sumTo-ones, sumTo-single, sumTo-swap}
+use Rattle.lists.proofs.Sum.{sumTo-more, sumTo-eq, sumTo-le, sumTo-zeros, sumTo-ones, sumTo-single, sumTo-swap}
 use Rattle.lists.proofs.Search.{false-true}
 use Rattle.counting.specs.Numbering.{countBelow}
 
 -- 1 where the numbers are equal, else 0
-abbrev mark : ℕ → ℕ → ℕ
+abbrev pub mark : ℕ → ℕ → ℕ
 mark x y = pick (eqb x y) 1 zero
 
-mark-same : (x y : ℕ) → x ≡ y → mark x y ≡ 1
+pub mark-same : (x y : ℕ) → x ≡ y → mark x y ≡ 1
 mark-same x y e = ap (λ (t : Bool). pick t 1 zero) (eq-eqb x y e)
 
-mark-other : (x y : ℕ) → x ≢ y → mark x y ≡ zero
+pub mark-other : (x y : ℕ) → x ≢ y → mark x y ≡ zero
 mark-other x y e = ap (λ (t : Bool). pick t 1 zero) (ne-eqb x y e)
+
+pub mark-iff : (x y v w : ℕ) → (x ≡ y → v ≡ w) → (v ≡ w → x ≡ y) → mark x y ≡ mark v w
+mark-iff x y v w f g = go (ℕ-discrete x y)
+  where
+    go : Dec (x ≡ y) → mark x y ≡ mark v w
+    go (yes e) = mark-same x y e ∙ sym (mark-same v w (f e))
+    go (no n) = mark-other x y n ∙ sym (mark-other v w (λ e. n (g e)))
+
+-- a loop that counts: one number more
+pub count-more : (n : ℕ) (p : ℕ → Bool) → countBelow (n + 1) p ≡ countBelow n p + pick (p n) 1 zero
+unfolding countBelow
+count-more n p = sumTo-more n (λ x. pick (p x) 1 zero)
+
+pub count-le : (n : ℕ) (p : ℕ → Bool) → countBelow n p ≤ n
+unfolding countBelow
+count-le n p = omega (arith, sumTo-le n 1 (λ x. pick (p x) 1 zero) (λ i h. one (p i)))
+  where
+    one : (t : Bool) → pick t 1 zero ≤ 1
+    one true = omega arith
+    one false = omega arith
 
 -- where f numbers what passes by 0, .., k - 1, k numbers pass: 1 for each that passes is the sum over i of 1 at f i
 pub count-by : (k n : ℕ) (f : ℕ → ℕ) (p : ℕ → Bool) → ((i : ℕ) → i < k → f i < n)

@@ -4,3 +4,5 @@ pub mod Prime
 pub mod Terms
 pub mod Sole
 pub mod Solutions
+pub mod Next
+pub mod Lengths

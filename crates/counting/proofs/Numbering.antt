@@ -1,16 +1,16 @@
--- Every list of n numbers below m has exactly one number below m^n.
+-- Every list of n numbers below m has exactly one number below m^n, and the numbers are in dictionary order.
 -- Assumes nothing.
 use mathlib.Core.Path.{_≡_, refl, sym, ap, _∙_, subst}
 use mathlib.Core.List.{List, [], _∷_, _++_}
 use Prim.Native.Nat.{ℕ, zero, suc, _+_, _*_, _/_, _%_, _^_, _<_}
-use native.Mathlib.Nat.{mod-lt, mod-eq-of-lt, div-eq-of-lt, mul-add-div-right, mul-add-mod-self-right, div-add-mod', div-lt-iff-lt-mul, pow-suc, pow-zero, mul-le-mul-right}
+use native.Mathlib.Nat.{mod-lt, mod-eq-of-lt, div-eq-of-lt, mul-add-div-right, mul-add-mod-self-right, div-add-mod', div-lt-iff-lt-mul, pow-suc, pow-zero, mul-le-mul-right, le-antisymm, le-div-iff-mul-le, div-mul-le-self}
 use native.Mathlib.Decide.{ℕ-discrete, decLt}
 use native.Mathlib.Omega.{arith}
 use lib.ListN.{length}
 use lib.Seq.{ext-getD}
 use Rattle.lists.specs.Table.{at}
 use Rattle.lists.proofs.Table.{at-past, length-snoc, at-front, at-last}
-use Rattle.counting.specs.Numbering.{listAt, ListOf, NumberOf}
+use Rattle.counting.specs.Numbering.{listAt, ListOf, Before, NumberOf}
 
 module _ (m : ℕ) where
   pub listAt-length : (n x : ℕ) → length (listAt m n x) ≡ n
@@ -19,7 +19,7 @@ module _ (m : ℕ) where
   listAt-length (suc n) x = length-snoc (listAt m n (x / m)) (x % m) ∙ ap suc (listAt-length n (x / m))
 
   -- one more entry
-  listAt-more : (n y s : ℕ) → s < m → listAt m (suc n) (y * m + s) ≡ listAt m n y ++ (s ∷ [])
+  pub listAt-more : (n y s : ℕ) → s < m → listAt m (suc n) (y * m + s) ≡ listAt m n y ++ (s ∷ [])
   unfolding listAt
   listAt-more n y s h =
       ap (λ (z : ℕ). listAt m n z ++ ((y * m + s) % m ∷ [])) (mul-add-div-right (let z : zero < m = omega arith in z) y s ∙ omega (arith, div-eq-of-lt h))
@@ -99,3 +99,52 @@ module _ (m : ℕ) where
             (λ i l. listAt-number n (at ts) (h .below) i (omega (arith, listAt-length n (number n (at ts)))));
         only = λ y l e. sym (number-listAt pos n y l) ∙ ap (λ (us : List ℕ). number n (at us)) e;
       }
+
+  -- and the numbers are in dictionary order
+  pub in-order : zero < m → (n x y : ℕ) → x < y → y < m ^ n → Before (listAt m n x) (listAt m n y)
+  unfolding listAt
+  in-order pos zero x y h k = absurd (omega (arith, pow-zero m))
+  in-order pos (suc n) x y h k = go (decLt (x / m) (y / m)) (λ l. in-order pos n (x / m) (y / m) l (quotient-below n y pos k))
+    where
+      long-x : length (listAt m n (x / m)) ≡ n
+      long-x = listAt-length n (x / m)
+
+      long-y : length (listAt m n (y / m)) ≡ n
+      long-y = listAt-length n (y / m)
+
+      front-x : (i : ℕ) → i < n → at (listAt m n (x / m) ++ (x % m ∷ [])) i ≡ at (listAt m n (x / m)) i
+      front-x i l = at-front (listAt m n (x / m)) (x % m) i (omega (arith, long-x))
+
+      front-y : (i : ℕ) → i < n → at (listAt m n (y / m) ++ (y % m ∷ [])) i ≡ at (listAt m n (y / m)) i
+      front-y i l = at-front (listAt m n (y / m)) (y % m) i (omega (arith, long-y))
+
+      go : Dec (x / m < y / m) → (x / m < y / m → Before (listAt m n (x / m)) (listAt m n (y / m)))
+          → Before (listAt m n (x / m) ++ (x % m ∷ [])) (listAt m n (y / m) ++ (y % m ∷ []))
+      go (yes l) ih =
+          let b = ih l in
+          let near : b .place < n = inside (decLt (b .place) n) (b .less) in
+          record {
+            place = b .place;
+            same = λ i j. front-x i (omega arith) ∙ b .same i j ∙ sym (front-y i (omega arith));
+            less = omega (arith, front-x (b .place) near, front-y (b .place) near, b .less);
+          }
+        where
+          -- past their ends both read 0
+          inside : {i : ℕ} → Dec (i < n) → at (listAt m n (x / m)) i < at (listAt m n (y / m)) i → i < n
+          inside (yes z) w = z
+          inside {i} (no z) w = absurd (omega (arith, at-past (listAt m n (y / m)) i (omega (arith, long-y))))
+      go (no l) ih =
+          let e : x / m ≡ y / m = le-antisymm (le-div-iff-mul-le {k = m} pos .1 (omega (arith, div-mul-le-self x m))) (omega arith) in
+          record {
+            place = n;
+            same = λ i j. front-x i j ∙ ap (λ (z : ℕ). at (listAt m n z) i) e ∙ sym (front-y i j);
+            less =
+                omega (
+                  arith,
+                  at-last (listAt m n (x / m)) (x % m) n long-x,
+                  at-last (listAt m n (y / m)) (y % m) n long-y,
+                  div-add-mod' x m,
+                  div-add-mod' y m,
+                  ap (λ (z : ℕ). z * m) e,
+                );
+          }

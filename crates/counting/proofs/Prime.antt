@@ -37,7 +37,7 @@ module _ (p : ℕ) (P : Prime p) (S : List ℕ) where
       ∙ omega arith
 
   -- what the next term leaves with the register so far
-  abbrev leaves : ℕ → ℕ
+  abbrev pub leaves : ℕ → ℕ
   leaves k = conv (at S) (at (register p S k .a)) k % p
 
   row-leaves : (k : ℕ) → d-at p 1 S zero k ≡ leaves k
@@ -52,14 +52,14 @@ module _ (p : ℕ) (P : Prime p) (S : List ℕ) where
           (sy (register-a-at p (P .big) S k (subst (Among (itself p)) (sym (prime-powers p P)) here) i))
 
   -- a term that the register fits keeps the length
-  length-fits : (k : ℕ) → leaves k ≡ zero → complexity p S (suc k) ≡ complexity p S k
+  pub length-fits : (k : ℕ) → leaves k ≡ zero → complexity p S (suc k) ≡ complexity p S k
   length-fits k e =
       complexity-row (suc k)
       ∙ length-stays p 1 P one-pos S zero k one-pos (omega (arith, ap (valuation 1 p) (row-leaves k ∙ e) ∙ valuation-zero 1 p))
       ∙ sym (complexity-row k)
 
   -- after any other it is the larger of l and k + 1 - l
-  length-fails : (k : ℕ) → leaves k ≢ zero → complexity p S (suc k) ≡ max (complexity p S k) (suc k - complexity p S k)
+  pub length-fails : (k : ℕ) → leaves k ≢ zero → complexity p S (suc k) ≡ max (complexity p S k) (suc k - complexity p S k)
   length-fails k ne = go (decLe (L-at p 1 S zero k + L-at p 1 S (g-at p 1 S zero k) k) k)
     where
       u-zero : u-at p 1 S zero k < 1

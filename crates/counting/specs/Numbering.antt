@@ -19,6 +19,12 @@ pub record ListOf (m n : ℕ) (ts : List ℕ) : Type 0 where
   pub size : length ts ≡ n
   pub below : (i : ℕ) → i < n → at ts i < m
 
+-- the list comes before the other in the dictionary: at the first place where they differ it has the smaller number
+pub record Before (ts us : List ℕ) : Type 0 where
+  pub place : ℕ
+  pub same : (i : ℕ) → i < place → at ts i ≡ at us i
+  pub less : at ts place < at us place
+
 -- x is the one number of the list among those below m^n
 pub record NumberOf (m n : ℕ) (ts : List ℕ) (x : ℕ) : Type 0 where
   pub below : x < m ^ n

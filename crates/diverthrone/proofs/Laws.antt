@@ -40,6 +40,7 @@ told-same told told′ R.CountsDiffer (v ∷ vs) = refl
 told-same told told′ R.MultipleAbove (v ∷ vs) = refl
 told-same told told′ (R.TermsDisagree i) (v ∷ vs) = refl
 told-same told told′ R.Period (v ∷ vs) = refl
+told-same told told′ R.Census (v ∷ vs) = refl
 
 at-place : (r : Refusal) (i : ℕ) → valueBy suc (refusal r .number) (i ∷ []) ≡ min i lastPlace
 at-place r i = told-same suc (λ v. min v lastPlace) r (i ∷ []) ∙ go (refusal r .number)

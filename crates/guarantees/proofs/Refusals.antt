@@ -71,6 +71,7 @@ places-carried =
     plain R.MultipleAbove h k l m = refl
     plain (R.TermsDisagree i) h k l m = absurd (m refl)
     plain R.Period h k l m = refl
+    plain R.Census h k l m = refl
 
 -- ---- where a query is wrong
 

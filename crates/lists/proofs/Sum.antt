@@ -1,6 +1,6 @@
 -- Laws of sums.
 -- Assumes nothing.
-use mathlib.Core.Path.{_≡_, refl, sym, ap, ap₂}
+use mathlib.Core.Path.{_≡_, refl, sym, ap, ap₂, _∙_}
 use mathlib.Core.Logic.{_⊎_, inl, inr, _≢_}
 use Prim.Native.Nat.{ℕ, zero, suc, _+_, _*_, _≤_, _<_}
 use native.Mathlib.Nat.{eq-or-lt-of-le}
@@ -41,7 +41,7 @@ unfolding sumTo
 sumTo-le zero c f h = omega arith
 sumTo-le (suc n) c f h = omega (arith, sumTo-le n c f (λ i k. h i (omega arith)), h n (omega arith))
 
-sumTo-add : (n : ℕ) (f g : ℕ → ℕ) → sumTo n (λ i. f i + g i) ≡ sumTo n f + sumTo n g
+pub sumTo-add : (n : ℕ) (f g : ℕ → ℕ) → sumTo n (λ i. f i + g i) ≡ sumTo n f + sumTo n g
 unfolding sumTo
 sumTo-add zero f g = refl
 sumTo-add (suc n) f g = omega (arith, sumTo-add n f g)
@@ -73,3 +73,35 @@ pub sumTo-swap : (n m : ℕ) (f : ℕ → ℕ → ℕ) → sumTo n (λ i. sumTo 
 unfolding sumTo
 sumTo-swap zero m f = sym (sumTo-zeros m (λ j. zero) (λ i h. refl))
 sumTo-swap (suc n) m f = omega (arith, sumTo-swap n m f, sumTo-add m (λ j. sumTo n (λ i. f i j)) (f n))
+
+pub sumTo-times : (n c : ℕ) (f : ℕ → ℕ) → sumTo n (λ i. c * f i) ≡ c * sumTo n f
+unfolding sumTo
+sumTo-times zero c f = omega arith
+sumTo-times (suc n) c f = omega (arith, sumTo-times n c f)
+
+-- the first a summands, and the b after them
+sumTo-split : (a b n : ℕ) (f : ℕ → ℕ) → n ≡ a + b → sumTo n f ≡ sumTo a f + sumTo b (λ i. f (a + i))
+unfolding sumTo
+sumTo-split a zero n f e = ap (λ (z : ℕ). sumTo z f) (let w : n ≡ a = omega arith in w) ∙ omega arith
+sumTo-split a (suc b) zero f e = absurd (omega arith)
+sumTo-split a (suc b) (suc n) f e = let w : n ≡ a + b = omega arith in omega (arith, sumTo-split a b n f w, ap f w)
+
+-- m summands at a time
+pub sumTo-rows : (a m n : ℕ) (f : ℕ → ℕ) → n ≡ a * m → sumTo n f ≡ sumTo a (λ y. sumTo m (λ s. f (y * m + s)))
+unfolding sumTo
+sumTo-rows zero m n f e = ap (λ (z : ℕ). sumTo z f) (let w : n ≡ zero = omega arith in w)
+sumTo-rows (suc a) m n f e = sumTo-split (a * m) m n f (let w : n ≡ a * m + m = omega arith in w) ∙ omega (arith, sumTo-rows a m (a * m) f refl)
+
+-- all summands are v but one, which is x
+pub sumTo-but-one : (m s x v : ℕ) (f : ℕ → ℕ) → s < m → f s ≡ x → ((i : ℕ) → i < m → i ≢ s → f i ≡ v) → sumTo m f + v ≡ x + m * v
+unfolding sumTo
+sumTo-but-one zero s x v f h e g = absurd (omega arith)
+sumTo-but-one (suc m) s x v f h e g = go (decLt s m) (λ l. sumTo-but-one m s x v f l e (λ i k ne. g i (omega arith) ne))
+  where
+    same : (n : ℕ) → n ≤ m → s ≡ m → sumTo n f ≡ n * v
+    same zero k q = omega arith
+    same (suc n) k q = omega (arith, same n (omega arith) q, g n (omega arith) (λ z. omega arith))
+
+    go : Dec (s < m) → (s < m → sumTo m f + v ≡ x + m * v) → sumTo m f + f m + v ≡ x + suc m * v
+    go (yes l) ih = omega (arith, ih l, g m (omega arith) (λ z. omega arith))
+    go (no l) ih = let q : s ≡ m = omega arith in omega (arith, same m (omega arith) q, ap f q, e)

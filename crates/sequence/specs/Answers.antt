@@ -50,6 +50,7 @@ refusal R.CountsDiffer = refused 29
 refusal R.MultipleAbove = refused 30
 refusal (R.TermsDisagree i) = refusedAt 31 i
 refusal R.Period = refused 32
+refusal R.Census = refused 33
 
 -- a place as a value
 abbrev pub placed : Place → List ℕ

@@ -64,6 +64,7 @@ pub enum Refusal {
     MultipleAbove,
     TermsDisagree(u32),
     Period,
+    Census,
 }
 
 // The place that a refusal carries.
@@ -319,6 +320,7 @@ pub fn number(r: Refusal) -> u64
         Refusal::MultipleAbove => 30,
         Refusal::TermsDisagree(_) => 31,
         Refusal::Period => 32,
+        Refusal::Census => 33,
     }
 }
 
