@@ -15,6 +15,7 @@ ghost use Rattle.lines.specs.Reading.{foundIn};
 ghost use Rattle.lines.specs.Reply.{readOf, readAnswer, queryIn};
 ghost use Rattle.merge.specs.Rules.{mergeOf, mergeAnswer, mergedIn};
 ghost use Rattle.period.specs.Rules.{periodLengthAnswer};
+ghost use Rattle.enumeration.specs.Rules.{enumerateOf, enumerateAnswer, queryNumbered, tallyOf, tallyAnswer, tallyCells};
 ghost use Rattle.diverthrone.specs.Codes.{lastPlace, codeOf, lengthCodeOf};
 
 // 2^56 - 1: the last place that fits beside the number of a refusal.
@@ -149,5 +150,38 @@ pub extern "C" fn diverthrone_period_length(cells: &[u8]) -> u64
     match m {
         Measured::Length(l) => 256 * (l as u64),
         Measured::Refused(r) => refused(r),
+    }
+}
+
+// Writes the query of the sequence of count terms with this number.
+// Rejected: one that cuts the number to 32 bits; one that clears the query's bytes before it refuses.
+#[no_mangle]
+pub extern "C" fn diverthrone_enumerate(
+    modulus: u32,
+    count: u32,
+    number: u64,
+    query: &mut [u8],
+) -> u64
+    ensures { λ r. ⌜ r ≡ codeOf (enumerateAnswer modulus count number (now (query .entry))) ⌝ }
+    ensures { λ r. ⌜ now (query .exit) ≡ filled (enumerateOf modulus count number (now (query .entry))) (queryNumbered modulus count number) (now (query .entry)) ⌝ }
+{
+    let o = enumeration::enumerate(modulus, count, number, query);
+    match o {
+        Outcome::Done => 0,
+        Outcome::Refused(r) => refused(r),
+    }
+}
+
+// How many sequences of count terms have each length.
+// Rejected: the count and the modulus exchanged; one that tallies one term fewer.
+#[no_mangle]
+pub extern "C" fn diverthrone_tally(modulus: u32, count: u32, cells: &mut [u8]) -> u64
+    ensures { λ r. ⌜ r ≡ codeOf (tallyAnswer modulus count (now (cells .entry))) ⌝ }
+    ensures { λ r. ⌜ now (cells .exit) ≡ filled (tallyOf modulus count (now (cells .entry))) (tallyCells modulus count) (now (cells .entry)) ⌝ }
+{
+    let o = enumeration::tally(modulus, count, cells);
+    match o {
+        Outcome::Done => 0,
+        Outcome::Refused(r) => refused(r),
     }
 }
