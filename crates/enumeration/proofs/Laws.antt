@@ -15,12 +15,10 @@ use Rattle.lists.proofs.Table.{at-tabulate}
 use Rattle.cells.specs.Cell.{bytesOf}
 use Rattle.residue.proofs.Congruence.{of-eq}
 use Rattle.recurrence.specs.Register.{complexity}
-use Rattle.recurrence.proofs.Register.{register-length, complexity-same, complexity-short}
+use Rattle.recurrence.proofs.Register.{complexity-same}
 use Rattle.counting.specs.Numbering.{listAt}
 use Rattle.counting.proofs.Numbering.{listAt-length, listAt-below}
 use Rattle.steps.specs.Run.{Below}
-use Rattle.synthesis.specs.declared.Synthesis.{Synthesis}
-use Rattle.synthesis.specs.Synthesis.{synthesisOf}
 use Rattle.sequence.specs.declared.Refusal.{Refusal}
 use Rattle.sequence.specs.declared.Refusal.the-variants as R
 use Rattle.sequence.specs.declared.Outcome.the-variants.{Done, Refused}
@@ -151,10 +149,5 @@ module _ (m n x : ℕ) (least : 2 ≤ m) (most : m ≤ maxModulus) (few : n ≤ 
   pub terms-below : Below maxTerms 65536 terms
   terms-below j h = omega (arith, term j h, listAt-below m (let z : zero < m = omega arith in z) n x j)
 
-  pub length-is : {r : Synthesis} → r ≡ synthesisOf m terms n → (r .length ≡ complexity m (listAt m n x) n) × (r .length ≤ n)
-  unfolding synthesisOf
-  length-is {r} e =
-      let l : r .length ≡ complexity m (listAt m n x) n
-      = ap (λ (z : Synthesis). z .length) e ∙ register-length m least terms n
-      ∙ complexity-same m least terms (listAt m n x) n (λ j h. of-eq (term j (omega arith))) in
-      (l, omega (arith, complexity-short m least (listAt m n x) n))
+  pub length-is : {r : ℕ} → (r ≡ complexity m terms n) × (r ≤ n) → (r ≡ complexity m (listAt m n x) n) × (r ≤ n)
+  length-is (e, h) = (e ∙ complexity-same m least terms (listAt m n x) n (λ j k. of-eq (term j (omega arith))), h)

@@ -134,8 +134,7 @@ fn length_of(m: u32, n: usize, number: u32) -> usize
     ensures { λ r. ⌜ (r ≡ complexity m (listAt m n number) n) × (r ≤ n) ⌝ }
 {
     let terms = digits(m, n, number);
-    let x = synthesis::synthesize(m, &terms, n);
-    x.length as usize
+    synthesis::complexity(m, &terms, n) as usize
 }
 
 // One more in a cell.

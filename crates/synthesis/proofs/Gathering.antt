@@ -283,6 +283,9 @@ module _ (m : ℕ) (S : List ℕ) (n : ℕ) (a lengths : List ℕ) (wide : 1 < m
       ap (λ (x : List ℕ). at x n) hl ∙ at-tabulate maxCells (lengthAt m S n) n (omega arith)
       ∙ rw (le-leb n n (le-refl n), lengthAt) (sym (register-length m wide S n))
 
+  pub complexity-is : at lengths n ≡ complexity m S n
+  complexity-is = length-is ∙ register-length m wide S n
+
   pub length-most : at lengths n ≤ n
   length-most = omega (arith, length-is, register-right m wide S n .short)
 

@@ -8,7 +8,7 @@ ghost use lib.ListN.{length, getD};
 ghost use Rattle.lists.specs.Table.{at, tabulate};
 ghost use Rattle.residue.specs.Units.{Coprime};
 ghost use Rattle.residue.specs.Factors.{isPrime, divisorsEnd, primePowers};
-ghost use Rattle.recurrence.specs.Register.{register};
+ghost use Rattle.recurrence.specs.Register.{complexity, register};
 ghost use Rattle.recurrence.specs.Working.{noStep, stepsAt, sheetOf, rowsOver};
 ghost use Rattle.steps.specs.Sizes.{maxTerms, maxCells, maxRows, logWords};
 ghost use Rattle.steps.specs.Log.{stepRecord, packed, words, overlaid, powerOf, Noted};
@@ -192,4 +192,23 @@ pub fn synthesize(modulus: u32, terms: &[u32; TERMS], count: usize) -> Synthesis
 {
     let mut empty = [0u64; 1];
     trace(modulus, terms, count, &mut empty[0..0])
+}
+
+// The length alone.
+pub fn complexity(modulus: u32, terms: &[u32; TERMS], count: usize) -> u32
+    requires { ⌜ (2 ≤ modulus) × (modulus < divisorsEnd) × (count ≤ maxTerms) × Below maxTerms 65536 (now terms) ⌝ }
+    ensures { λ r. ⌜ (r ≡ complexity modulus (now (terms .entry)) count) × (r ≤ count) ⌝ }
+{
+    let mut a = [0u32; CELLS];
+    let mut lengths = [0u32; CELLS];
+    let mut empty = [0u64; 1];
+    gather(
+        modulus,
+        terms,
+        count,
+        &mut a,
+        &mut lengths,
+        &mut empty[0..0],
+    );
+    lengths[count]
 }

@@ -1,4 +1,4 @@
--- `enumeration::length_of` meets its contract: the steps give the linear complexity.
+-- `enumeration::length_of` meets its contract: the terms in the array have the linear complexity of those in the list.
 -- Assumes nothing.
 use native.Mathlib.Omega.{arith}
 use borrow.Author.Needs.{needs}
@@ -9,8 +9,8 @@ use Rattle.enumeration.proofs.length_of.Tie as tie
 digits-requires : tie.Need-digits-requires
 digits-requires c κs = (omega (arith, c .pre .0), c .pre .2)
 
-synthesize-requires : tie.Need-synthesize-requires
-synthesize-requires c κs =
+complexity-requires : tie.Need-complexity-requires
+complexity-requires c κs =
     let d = c .before in
     let z = d .before in
     let a = z .args in
@@ -21,11 +21,10 @@ cast-result c = search needs
 
 returns : tie.Need-returns
 returns c =
-    let s = c .before in
-    let d = s .before .before in
+    let d = c .before .before in
     let z = d .before in
     let a = z .args in
-    length-is (a .m) (a .n) (a .number) (z .pre .0) (z .pre .1) (z .pre .2) (d .digits .ensures) (s .synthesize .ensures)
+    length-is (a .m) (a .n) (a .number) (z .pre .0) (z .pre .1) (z .pre .2) (d .digits .ensures) (c .complexity .ensures)
 
 pub length-of-spec : {M : Type 1} → statement M
-length-of-spec = tie.close (tie.spec digits-requires synthesize-requires cast-result returns)
+length-of-spec = tie.close (tie.spec digits-requires complexity-requires cast-result returns)
