@@ -40,6 +40,7 @@
  *      31     two terms at the same place disagree modulo the greatest common divisor of the moduli, so that no number leaves both; the value
  *             is the place of the first such pair
  *      32     the number of cells lent as a period is none of 1, 2, 4, 8, 16, 32, 64
+ *      33     the modulus to the power of the count is above 4,096, or the number of a sequence is not below that power
  *
  * Where several apply the first is given, in the order that each function states.
  *
@@ -61,6 +62,7 @@ extern "C" {
 #define DIVERTHRONE_A_BYTES 258
 #define DIVERTHRONE_B_BYTES 256
 #define DIVERTHRONE_RECORD_BYTES 778
+#define DIVERTHRONE_TALLY_BYTES 26
 
 /* The places in a record, in bytes from its start; the query stands at 0. */
 #define DIVERTHRONE_LENGTH_PLACE 260
@@ -117,6 +119,23 @@ uint64_t diverthrone_merge(const uint8_t *first, size_t first_len, const uint8_t
  * modulus 2. Fewer terms than two periods may have a smaller one: 1,0,1,0 has length 2, and 1,0 alone 1.
  * Refusals in order: 5 (an odd number of bytes), 32, 3. The refusal 2 is not given: more than 128 cells get 32, as 0 and 128 do. */
 uint64_t diverthrone_period_length(const uint8_t *cells, size_t cells_len);
+
+/* Writes the query of the sequence with this number, among all sequences of so many terms modulo the modulus. They are counted from 0 in
+ * dictionary order by first term, so that the last term runs fastest and every sequence has exactly one number: number 0 is all zeros, and
+ * modulo 2 with 3 terms number 1 is 0,0,1 and number 6 is 1,1,0. Value 0.
+ * There are modulus^count of them, and the power may be at most 4,096: 12 terms modulo 2, 2 terms up to the modulus 64, one term or none with
+ * any modulus. No terms are one sequence, number 0. All bits of the three numbers are looked at: 2^32 + 6 is not 6.
+ * The query is the one that would be written by hand, zero past the count, and diverthrone_synthesize refuses none of them.
+ * Refusals in order: 5 (query), 1, 2, 33. */
+uint64_t diverthrone_enumerate(uint32_t modulus, uint32_t count, uint64_t number, uint8_t *query, size_t query_len);
+
+/* Tallies the least lengths of all these sequences in 13 cells of two bytes, low byte first: cell l gets how many of them have length l, and
+ * past the count it is 0. Modulo 2 with 3 terms the cells are 1,2,4,1, modulo 4 with 2 terms 1,10,5, then zeros. Value 0.
+ * The cells add up to modulus^count. Cell 0 is 1, since zeros alone have length 0. For a prime modulus m, n terms and l from 1 to n, cell l
+ * is (m - 1) m^min(2n - 2l, 2l - 1).
+ * Every sequence is looked at, so a call takes the time of up to 4,096 registers.
+ * Refusals in order: 5 (cells), 1, 2, 33. */
+uint64_t diverthrone_tally(uint32_t modulus, uint32_t count, uint8_t *cells, size_t cells_len);
 
 static inline unsigned diverthrone_refusal(uint64_t reply) { return (unsigned)(reply % 256); }
 
@@ -177,6 +196,14 @@ static inline uint64_t diverthrone_period_length_null(const uint8_t *cells, size
     return diverthrone_period_length(diverthrone_in(cells, cells_len), cells_len);
 }
 
+static inline uint64_t diverthrone_enumerate_null(uint32_t modulus, uint32_t count, uint64_t number, uint8_t *query, size_t query_len) {
+    return diverthrone_enumerate(modulus, count, number, diverthrone_out(query, query_len), query_len);
+}
+
+static inline uint64_t diverthrone_tally_null(uint32_t modulus, uint32_t count, uint8_t *cells, size_t cells_len) {
+    return diverthrone_tally(modulus, count, diverthrone_out(cells, cells_len), cells_len);
+}
+
 #define diverthrone_synthesize diverthrone_synthesize_null
 #define diverthrone_look_up diverthrone_look_up_null
 #define diverthrone_verify diverthrone_verify_null
@@ -184,6 +211,8 @@ static inline uint64_t diverthrone_period_length_null(const uint8_t *cells, size
 #define diverthrone_read_line diverthrone_read_line_null
 #define diverthrone_merge diverthrone_merge_null
 #define diverthrone_period_length diverthrone_period_length_null
+#define diverthrone_enumerate diverthrone_enumerate_null
+#define diverthrone_tally diverthrone_tally_null
 
 #ifdef __cplusplus
 }

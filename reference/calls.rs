@@ -1,14 +1,15 @@
-//! The calls of document 01, and of requests A1 to A3, A5 and A7 to A10 in 02, on plain
+//! The calls of document 01, and of requests A1 to A3, A5 and A7 to A11 in 02, on plain
 //! values and byte buffers.
 //!
 //! "Order where several apply: 5, 21, 1, 2, 22, 3, 4, 6, 23, 24. Each call gives
 //! only those that concern what it is handed." 25 comes right before 6, 26 right
 //! after it, and only the 5 of a sheet comes after 21. 27 and 28 come after 5 and before
 //! 1, the one with the lower place. Of two slips the first has all of 1 to 4 before the
-//! second, and 29, 30, 31 follow. 32 comes after 5 and before 3. A refused call leaves every
-//! lent byte as it was, and a reading too, but for the terms that a column took before its
-//! refusal.
+//! second, and 29, 30, 31 follow. 32 comes after 5 and before 3, and 33 after 5, 1 and 2. A
+//! refused call leaves every lent byte as it was, and a reading too, but for the terms that a
+//! column took before its refusal.
 
+use crate::census::{how_many, numbered, tally_of};
 use crate::join::{
     histories, profile as profile_of, register as register_of, register_after, sheet as sheet_of,
     sheet_size, Register,
@@ -332,6 +333,36 @@ pub fn period_length(period: &[u8]) -> Result<usize, Refusal> {
         return Err(Refusal::Term(place));
     }
     Ok(halved_length(&digits))
+}
+
+// ---- the census ----
+
+/// What both calls of the census check after their buffer: 1, 2, 33 for the power, which is
+/// handed back with m and n. 02, A11: 33 "follows 1 and 2"; so 129 terms get 2, and 13 to 128
+/// get 33 for every modulus.
+fn check_census(m: u32, n: u32) -> Result<(u64, usize, u64), Refusal> {
+    let (m, n) = (u64::from(m), n as usize);
+    demand(legal_modulus(m), Refusal::Modulus)?;
+    demand(n <= TERMS_LIMIT, Refusal::TooMany)?;
+    let power = how_many(m, n).ok_or(Refusal::Census)?;
+    Ok((m, n, power))
+}
+
+/// Writes the slip of the sequence with this number among all of n terms modulo m: 5, 1, 2, 33.
+pub fn enumerate(m: u32, n: u32, number: u64, slip: &mut [u8]) -> Result<(), Refusal> {
+    demand(slip.len() == SLIP_BYTES, Refusal::Buffer)?;
+    let (m, n, power) = check_census(m, n)?;
+    demand(number < power, Refusal::Census)?;
+    slip.copy_from_slice(&slip_of(m, &numbered(m, n, number)));
+    Ok(())
+}
+
+/// Tallies the least lengths of all sequences of n terms modulo m: 5, 1, 2, 33.
+pub fn tally(m: u32, n: u32, buffer: &mut [u8]) -> Result<(), Refusal> {
+    demand(buffer.len() == TALLY_BYTES, Refusal::Buffer)?;
+    let (m, n, _) = check_census(m, n)?;
+    write_cells(buffer, &tally_of(m, n));
+    Ok(())
 }
 
 // ---- slips, records, shelf ----

@@ -1,7 +1,7 @@
 //! What the random slips, scripts and typed lines meet: every refusal of every call, the
 //! places, the kinds of bad claims, of lines, of columns, of servings, of answers of A8, of
-//! merges, of periods, and how the orders stand to the starts. The seeds are those that
-//! tests/expectations.sh uses.
+//! merges, of periods, of numbers, tallies and lines of the census, and how the orders stand to
+//! the starts. The seeds are those that tests/expectations.sh uses.
 
 use crate::ask::{self, ask, LINE_LIMIT};
 use crate::calls::*;
@@ -14,9 +14,13 @@ use crate::linecalls::linecalls;
 use crate::listing::listing;
 use crate::merges;
 use crate::mergesmet;
+use crate::numbers;
+use crate::numbersmet;
 use crate::onlymet;
+use crate::pairs::pairs;
 use crate::periods;
 use crate::periodsmet;
+use crate::printed::census;
 use crate::scenarios;
 use crate::script::{line, reading_bytes, replay, Call, Operation};
 use crate::sequences;
@@ -30,7 +34,7 @@ use std::collections::{BTreeMap, BTreeSet};
 const LEAST: usize = 3;
 
 /// The calls and the refusals that each has.
-const REFUSALS: [(&str, &[u32]); 15] = [
+const REFUSALS: [(&str, &[u32]); 18] = [
     ("open", &[1]),
     ("push", &[21, 22, 3]),
     ("register", &[5, 21]),
@@ -44,9 +48,12 @@ const REFUSALS: [(&str, &[u32]); 15] = [
     ("push_all", &[5, 21, 22, 3]),
     ("merge", &[5, 1, 2, 3, 4, 29, 30, 31]),
     ("period_length", &[5, 32, 3]),
+    ("enumerate", &[5, 1, 2, 33]),
+    ("tally", &[5, 1, 2, 33]),
     // A piece that is too short is put after the slips.
     ("listing", &[1, 2, 3, 4]),
     ("ask", &[5, 27, 28, 1, 2]),
+    ("census", &[1, 2, 33]),
 ];
 
 /// How often each thing was met, by name.
@@ -65,14 +72,16 @@ pub fn met(group: &mut Group) {
         linecalls(15, 2000),
         merges::merges(16, 1500),
         periods::periods(17, 600),
+        numbers::numbers(18, 600),
     ]
     .concat();
     let slips = sequences::slips(21, 2400);
-    let input = typed(41, 1600);
+    let (input, lines) = (typed(41, 1600), pairs(51, 400));
     let (text, whole) = replay(&script);
     group.check(whole, || String::from("the script is whole"));
     let (listed, asked) = (named("listing", &listing(&slips)), named("ask", &ask(&input)));
-    refusals_met(group, &[&text[..], &listed, &asked].concat());
+    let counted = named("census", &census(&lines));
+    refusals_met(group, &[&text[..], &listed, &asked, &counted].concat());
     let worked = working(&sequences::slips(46, 160));
     starts_met(group, &[listed, named("working", &worked), asked].concat());
     onlymet::met(group, &script, &text, &worked);
@@ -84,10 +93,14 @@ pub fn met(group: &mut Group) {
     servings::met(group, &script);
     mergesmet::met(group, &script);
     periodsmet::met(group, &script);
+    numbersmet::met(group, &script);
+    numbersmet::tallies_met(group, &script);
+    numbersmet::lines_met(group, &lines);
     // Those by hand have each kind; without them it takes more.
     servings::met(group, &rounds(14, 2000));
     mergesmet::met(group, &merges::rounds(16, 40000));
     periodsmet::met(group, &periods::rounds(17, 40000));
+    numbersmet::met(group, &numbers::rounds(18, 40000));
 }
 
 /// The text with the name of its command before each line.

@@ -1,4 +1,4 @@
-//! The limits and sizes of document 01 and of requests A7 and A10 in 02, each in one place.
+//! The limits and sizes of document 01 and of requests A7, A10 and A11 in 02, each in one place.
 
 /// "m from 2 to 4,095": the largest legal modulus. The arithmetic is wide
 /// enough for any value up to 65,535.
@@ -35,6 +35,15 @@ pub const EDITOR: u64 = 1;
 
 /// 02, A10: "period N = 1, 2, 4 up to 64, doubling"; "these seven".
 pub const PERIODS: [usize; 7] = [1, 2, 4, 8, 16, 32, 64];
+
+/// 02, A11: "m to the power n at most 4,096". It has nothing to do with the largest modulus, and
+/// stays when that one changes.
+pub const CENSUS_LIMIT: u64 = 4096;
+
+/// 02, A11: "tallies the least lengths in 13 cells". 2 to the power 12 is 4,096, so that n is at
+/// most 12.
+pub const TALLY_CELLS: usize = 13;
+pub const TALLY_BYTES: usize = TALLY_CELLS * CELL_BYTES;
 
 /// The step records of the longest sheet there can be: n times the sum of the e, and
 /// that sum is at most 15, because 2^16 is above 65,535.

@@ -54,7 +54,12 @@ fn least_from(power: PrimePower, terms: &[u64], start: usize) -> usize {
 /// The least length modulo m for all the terms, every l tried from 0 up; the
 /// largest of those at the prime powers.
 pub fn least_length(m: u64, terms: &[u64]) -> usize {
-    prime_powers(m).into_iter().map(|power| least_from(power, terms, 0)).max().unwrap_or(0)
+    least_length_at(&prime_powers(m), terms)
+}
+
+/// The same where the prime powers of m are known.
+pub fn least_length_at(powers: &[PrimePower], terms: &[u64]) -> usize {
+    powers.iter().map(|&power| least_from(power, terms, 0)).max().unwrap_or(0)
 }
 
 /// The profile modulo m. What gives the first k+1 terms gives the first k, so

@@ -6,6 +6,10 @@ mod ask;
 mod calls;
 mod cases;
 mod catalogues;
+mod census;
+mod censuscases;
+mod censuschecks;
+mod censuslines;
 mod checks;
 mod columncases;
 mod columnchecks;
@@ -28,15 +32,19 @@ mod mergecases;
 mod mergechecks;
 mod merges;
 mod mergesmet;
+mod numbers;
+mod numbersmet;
 mod only;
 mod onlychecks;
 mod onlymet;
 mod orders;
+mod pairs;
 mod period;
 mod periodcases;
 mod periodchecks;
 mod periods;
 mod periodsmet;
+mod printed;
 mod random;
 mod refusals;
 mod residue;
@@ -59,6 +67,7 @@ const USAGE: &str = "usage: reference COMMAND
   working                 slips on standard input to the listing with each sheet
   ask                     typed lines on standard input to the listing
   working lines           typed lines on standard input to the listing with each sheet
+  census                  lines with a modulus and a count to the tallies
   replay                  a script on standard input to the expected text
   slips SEED COUNT        random slips
   calls SEED COUNT        a script of random lists of calls on a reading
@@ -68,6 +77,8 @@ const USAGE: &str = "usage: reference COMMAND
   linecalls SEED COUNT    a script of readings of typed lines
   merges SEED COUNT       a script of merges of two slips
   periods SEED COUNT      a script of lengths of periods
+  numbers SEED COUNT      a script of sequences by their numbers and of tallies
+  pairs SEED COUNT        random lines with a modulus and a count
   selftest                checks this program against itself and the papers
 ";
 
@@ -81,6 +92,7 @@ fn main() -> ExitCode {
         ["working", "lines"] => {
             with_input(|input| (working::working_lines(input).into_bytes(), true))
         }
+        ["census"] => with_input(|input| (printed::census(input).into_bytes(), true)),
         ["replay"] => with_input(|input| {
             let (text, whole) = script::replay(input);
             (text.into_bytes(), whole)
@@ -93,6 +105,8 @@ fn main() -> ExitCode {
         ["linecalls", seed, count] => generated(seed, count, linecalls::linecalls),
         ["merges", seed, count] => generated(seed, count, merges::merges),
         ["periods", seed, count] => generated(seed, count, periods::periods),
+        ["numbers", seed, count] => generated(seed, count, numbers::numbers),
+        ["pairs", seed, count] => generated(seed, count, pairs::pairs),
         ["selftest"] => ExitCode::from(u8::from(!selftest::selftest())),
         _ => usage(),
     }

@@ -32,6 +32,8 @@ pub fn orders(group: &mut Group) {
     orders_of_columns(group);
     orders_of_merges(group);
     orders_of_periods(group);
+    orders_of_numbers(group);
+    orders_of_tallies(group);
 }
 
 /// Each kind of fault for itself, with its number and place.
@@ -329,6 +331,55 @@ fn orders_of_periods(group: &mut Group) {
     }
 }
 
+/// 02, A11: "A buffer of another length gets 5", and 33 "follows 1 and 2".
+const OF_CENSUS: [Told; 4] = [bare(5), bare(1), bare(2), bare(33)];
+
+/// Moduli, counts and changes of a buffer's size that are wrong.
+fn wrong_for_census() -> Vec<(u32, u32, [usize; 2])> {
+    let mut all = Vec::new();
+    for m in [0, 1, 4096, 65538, u32::MAX] {
+        for n in [129, 256, 65539, u32::MAX] {
+            all.extend([[1, 0], [0, 1], [13, 0]].map(|change| (m, n, change)));
+        }
+    }
+    all
+}
+
+/// 33 is for the power, for the next number, or for one that is below it in 32 bits.
+fn orders_of_numbers(group: &mut Group) {
+    for (wrong, count, [less, more]) in wrong_for_census() {
+        for (power, number) in [(13, 7), (128, u64::MAX), (3, 8), (3, 1 << 32), (3, u64::MAX)] {
+            every_set(group, "a number", &OF_CENSUS, |with| {
+                let m = if with(1) { wrong } else { 2 };
+                let n = if with(33) { power } else { 3 };
+                let n = if with(2) { count } else { n };
+                let asked = if with(33) { number } else { 7 };
+                let size = if with(5) { SLIP_BYTES + more - less } else { SLIP_BYTES };
+                let mut slip = vec![7; size];
+                let outcome = enumerate(m, n, asked, &mut slip);
+                kept(outcome, slip.iter().all(|&byte| byte == 7))
+            });
+        }
+    }
+}
+
+/// 33 is for the power alone.
+fn orders_of_tallies(group: &mut Group) {
+    for (wrong, count, [less, more]) in wrong_for_census() {
+        for (modulus, power) in [(2, 13), (65, 2), (4095, 128)] {
+            every_set(group, "a tally", &OF_CENSUS, |with| {
+                let (m, n) = if with(33) { (modulus, power) } else { (2, 3) };
+                let m = if with(1) { wrong } else { m };
+                let n = if with(2) { count } else { n };
+                let size = if with(5) { 26 + more - less } else { 26 };
+                let mut cells = vec![7; size];
+                let outcome = tally(m, n, &mut cells);
+                kept(outcome, cells.iter().all(|&byte| byte == 7))
+            });
+        }
+    }
+}
+
 // ---- each kind of fault ----
 
 /// Each refusal has its number in the papers, 3, 27, 28 and 31 alone have a place, and the
@@ -357,6 +408,7 @@ fn numbers_and_words(group: &mut Group) {
         (Refusal::Disagreement(0), (31, Some(0)), "refused 31 at 0"),
         (Refusal::Disagreement(127), (31, Some(127)), "refused 31 at 127"),
         (Refusal::Period, bare(32), "refused 32"),
+        (Refusal::Census, bare(33), "refused 33"),
     ];
     for (refusal, expected, words) in all {
         group.check(told::<()>(Err(refusal)) == Err(expected), || format!("{refusal:?}"));

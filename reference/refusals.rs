@@ -1,4 +1,4 @@
-//! The refusals of 01 and of 02 as far as A10, with their numbers and the place that
+//! The refusals of 01 and of 02 as far as A11, with their numbers and the place that
 //! a 3, a 27, a 28 or a 31 carries.
 
 use std::fmt;
@@ -50,6 +50,8 @@ pub enum Refusal {
     Disagreement(usize),
     /// 32: "the period is none of these seven".
     Period,
+    /// 33: "the power is above 4,096, or the number is not below it".
+    Census,
 }
 
 impl Refusal {
@@ -74,6 +76,7 @@ impl Refusal {
             Refusal::Multiple => 30,
             Refusal::Disagreement(_) => 31,
             Refusal::Period => 32,
+            Refusal::Census => 33,
         }
     }
 

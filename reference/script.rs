@@ -24,9 +24,11 @@ pub enum Operation {
     PushAll = 11,
     Merge = 12,
     PeriodLength = 13,
+    Enumerate = 14,
+    Tally = 15,
 }
 
-const OPERATIONS: [(Operation, &str); 14] = [
+const OPERATIONS: [(Operation, &str); 16] = [
     (Operation::Open, "open"),
     (Operation::Push, "push"),
     (Operation::Register, "register"),
@@ -41,10 +43,13 @@ const OPERATIONS: [(Operation, &str); 14] = [
     (Operation::PushAll, "push_all"),
     (Operation::Merge, "merge"),
     (Operation::PeriodLength, "period_length"),
+    (Operation::Enumerate, "enumerate"),
+    (Operation::Tally, "tally"),
 ];
 
 /// One call of a script. `number` is the modulus, the term, the l of a test, who asks in
-/// a serving or the records of a sheet; `l` is the l of a run.
+/// a serving or the records of a sheet; `l` is the l of a run. The payload is the bytes of
+/// buffers, or the numbers of a call of the census.
 #[derive(Clone, PartialEq, Eq, Debug)]
 pub struct Call {
     pub operation: Operation,
@@ -68,6 +73,16 @@ impl Call {
             | Operation::PushAll
             | Operation::PeriodLength => [true, false, false],
             _ => [false, false, false],
+        }
+    }
+
+    /// The bytes of the numbers that the payload has where the header has no room for them: a
+    /// count of terms, and a sequence's number after it.
+    fn numbers_in_payload(operation: Operation) -> usize {
+        match operation {
+            Operation::Enumerate => 12,
+            Operation::Tally => 4,
+            _ => 0,
         }
     }
 
@@ -101,7 +116,8 @@ impl Call {
             return Err(String::from("bad forge"));
         }
         let held = Call::in_payload(operation);
-        let size: usize = (0..3).filter(|&i| held[i]).map(|i| call.lengths[i] as usize).sum();
+        let lent: usize = (0..3).filter(|&i| held[i]).map(|i| call.lengths[i] as usize).sum();
+        let size = lent + Call::numbers_in_payload(operation);
         let payload = script.get(HEADER_BYTES..HEADER_BYTES + size).ok_or("cut short")?;
         call.payload = payload.to_vec();
         Ok((call, HEADER_BYTES + size))
@@ -123,6 +139,11 @@ impl Call {
         }
         buffers
     }
+}
+
+/// The number that up to eight bytes give, low byte first.
+fn low_first(bytes: &[u8]) -> u64 {
+    bytes.iter().rev().fold(0, |number, &byte| number << 8 | u64::from(byte))
 }
 
 /// FNV-1a with 32 bits.
@@ -189,7 +210,10 @@ pub fn line(call: &Call, reading: &mut Reading) -> String {
     let hashed: Vec<&Vec<u8>> = match call.operation {
         Operation::Open | Operation::Push | Operation::Forge => vec![&held],
         Operation::Register => vec![first, second],
-        Operation::Profile | Operation::PeriodLength => vec![first],
+        Operation::Profile
+        | Operation::PeriodLength
+        | Operation::Enumerate
+        | Operation::Tally => vec![first],
         Operation::Verify => vec![],
         Operation::Generate | Operation::LookUp | Operation::Merge => vec![third],
         Operation::Synthesize | Operation::ReadLine => vec![second],
@@ -240,6 +264,18 @@ fn perform(
         Operation::PushAll => Ok(column_word(calls::push_all(reading, first))),
         Operation::Merge => calls::merge(first, second, third).map(ok),
         Operation::PeriodLength => calls::period_length(first).map(length_word),
+        Operation::Enumerate | Operation::Tally => counted(call, first).map(ok),
+    }
+}
+
+/// Makes a call of the census: the count of terms is in the payload, and a sequence's number
+/// comes after it.
+fn counted(call: &Call, buffer: &mut [u8]) -> Result<(), Refusal> {
+    let (count, number) = call.payload.split_at(4);
+    let count = low_first(count) as u32;
+    match call.operation {
+        Operation::Enumerate => calls::enumerate(call.number, count, low_first(number), buffer),
+        _ => calls::tally(call.number, count, buffer),
     }
 }
 

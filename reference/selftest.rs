@@ -3,6 +3,9 @@
 use crate::calls::*;
 use crate::cases;
 use crate::catalogues;
+use crate::censuscases;
+use crate::censuschecks;
+use crate::censuslines;
 use crate::checks::{group, Group};
 use crate::columncases;
 use crate::columnchecks;
@@ -21,6 +24,7 @@ use crate::listing::listing;
 use crate::mergecases;
 use crate::mergechecks;
 use crate::merges;
+use crate::numbers;
 use crate::onlychecks;
 use crate::orders;
 use crate::periodcases;
@@ -38,7 +42,7 @@ use crate::steps::{self, coefficient, length, Pair};
 use crate::typed;
 
 /// The groups in the order in which they run.
-const GROUPS: [(&str, fn(&mut Group)); 58] = [
+const GROUPS: [(&str, fn(&mut Group)); 67] = [
     ("cases 1 to 15", cases::cases),
     ("tables 1 and 2 of 000", cases::tables),
     ("sheets and their text by hand", cases::sheets_by_hand),
@@ -97,6 +101,15 @@ const GROUPS: [(&str, fn(&mut Group)); 58] = [
     ("periods, whose register is the only one", periodchecks::only_one),
     ("periods, random ones by their bytes", periodchecks::by_bytes),
     ("periods turned, added and doubled", periodchecks::related),
+    ("census by hand", censuscases::by_hand),
+    ("census, the whole dictionaries", censuschecks::dictionary),
+    ("census, tallies and the steps", censuschecks::by_steps),
+    ("census, tallies and all lists of coefficients", censuschecks::by_trying),
+    ("census, tallies and all registers", censuschecks::by_registers),
+    ("census, what is known of the tallies", censuschecks::known),
+    ("census, random calls by their bytes", censuschecks::by_bytes),
+    ("census printed, by hand", censuslines::by_hand),
+    ("census printed, random lines", censuslines::random_lines),
 ];
 
 /// True if every group passes.
@@ -363,8 +376,9 @@ fn scripts(group: &mut Group) {
     scripts_of_catalogues(group);
     scripts_of_merges(group);
     scripts_of_periods(group);
+    scripts_of_numbers(group);
     group.check(replay(&[]) == (String::new(), true), || String::from("no calls"));
-    group.check(replay(&[14; 16]).0 == "script unknown 14\n", || String::from("unknown"));
+    group.check(replay(&[16; 16]).0 == "script unknown 16\n", || String::from("unknown"));
     listings(group);
 }
 
@@ -448,6 +462,27 @@ fn scripts_of_periods(group: &mut Group) {
     }
     let size = periods::periods(17, 600).len();
     group.check(size < 300_000, || format!("{size} bytes of periods"));
+}
+
+/// Every script of numbers has those by hand in front; it is below 60,000 bytes with the count
+/// of tests/expectations.sh.
+fn scripts_of_numbers(group: &mut Group) {
+    let by_hand = numbers::numbers(0, 0);
+    let lines = replay(&by_hand).0.lines().count();
+    group.check(lines == 1318, || format!("{lines} numbers and tallies by hand"));
+    for seed in 0..4 {
+        let script = numbers::numbers(seed, 60);
+        group.check(script == numbers::numbers(seed, 60), || format!("numbers {seed}: bytes"));
+        let random = numbers::rounds(seed, 60);
+        let right = script == [&by_hand[..], &random].concat();
+        group.check(right, || format!("numbers {seed}: by hand, then random"));
+        let (text, whole) = replay(&random);
+        let named = |line: &str| line.starts_with("enumerate ") || line.starts_with("tally ");
+        let right = whole && text.lines().all(named) && text.lines().count() == 60;
+        group.check(right, || text.clone());
+    }
+    let size = numbers::numbers(18, 600).len();
+    group.check(size < 60_000, || format!("{size} bytes of numbers"));
 }
 
 /// The listing of random slips and of pieces of every size.

@@ -9,16 +9,16 @@
 extern const uint8_t *seen[3];
 extern size_t seen_len[3];
 extern uint32_t seen_number[2];
-extern uint64_t seen_who;
+extern uint64_t seen_wide;
 
-enum { LENGTH = 70000, MODULUS = 80000 };
+enum { LENGTH = 70000, MODULUS = 80000, COUNT = 90000 };
 
-/* 2^32 + 1: cut to 32 bits it would be an editor. */
-static const uint64_t WHO = UINT64_C(4294967297);
+/* 2^32 + 1: cut to 32 bits it would be an editor, or the number of another sequence. */
+#define WIDE UINT64_C(4294967297)
 
 static uint64_t synthesize(uint8_t *const p[3], const size_t n[3]) { return diverthrone_synthesize(p[0], n[0], p[1], n[1]); }
 
-static uint64_t look_up(uint8_t *const p[3], const size_t n[3]) { return diverthrone_look_up(p[0], n[0], p[1], n[1], WHO, p[2], n[2]); }
+static uint64_t look_up(uint8_t *const p[3], const size_t n[3]) { return diverthrone_look_up(p[0], n[0], p[1], n[1], WIDE, p[2], n[2]); }
 
 static uint64_t verify(uint8_t *const p[3], const size_t n[3]) { return diverthrone_verify(p[0], n[0], p[1], n[1], p[2], n[2], LENGTH); }
 
@@ -32,27 +32,35 @@ static uint64_t merge(uint8_t *const p[3], const size_t n[3]) { return diverthro
 
 static uint64_t period_length(uint8_t *const p[3], const size_t n[3]) { return diverthrone_period_length(p[0], n[0]); }
 
+static uint64_t enumerate(uint8_t *const p[3], const size_t n[3]) { return diverthrone_enumerate(MODULUS, COUNT, WIDE, p[0], n[0]); }
+
+static uint64_t tally(uint8_t *const p[3], const size_t n[3]) { return diverthrone_tally(MODULUS, COUNT, p[0], n[0]); }
+
 /* By its address, as from a host's table of functions. */
 static uint64_t (*const address)(const uint8_t *, size_t, const uint8_t *, size_t, uint64_t, uint8_t *, size_t) = diverthrone_look_up;
 
-static uint64_t by_address(uint8_t *const p[3], const size_t n[3]) { return address(p[0], n[0], p[1], n[1], WHO, p[2], n[2]); }
+static uint64_t by_address(uint8_t *const p[3], const size_t n[3]) { return address(p[0], n[0], p[1], n[1], WIDE, p[2], n[2]); }
 
+/* What is handed on beside the slices: a length or a count, a modulus, and a number of 64 bits. */
 struct call {
     const char *name;
     uint64_t (*make)(uint8_t *const p[3], const size_t n[3]);
     size_t slices;
     uint64_t reply;
-    uint32_t length, modulus;
+    uint32_t number, modulus;
+    uint64_t wide;
 };
 
-static const struct call calls[] = {{"synthesize", synthesize, 2, 1, 0, 0},
-                                    {"look_up", look_up, 3, 2, 0, 0},
-                                    {"verify", verify, 3, 3, LENGTH, 0},
-                                    {"generate", generate, 3, 4, LENGTH, MODULUS},
-                                    {"read_line", read_line, 2, 5, 0, 0},
-                                    {"merge", merge, 3, 6, 0, 0},
-                                    {"period_length", period_length, 1, 7, 0, 0},
-                                    {"look_up by its address", by_address, 3, 2, 0, 0}};
+static const struct call calls[] = {{"synthesize", synthesize, 2, 1, 0, 0, 0},
+                                    {"look_up", look_up, 3, 2, 0, 0, WIDE},
+                                    {"verify", verify, 3, 3, LENGTH, 0, 0},
+                                    {"generate", generate, 3, 4, LENGTH, MODULUS, 0},
+                                    {"read_line", read_line, 2, 5, 0, 0, 0},
+                                    {"merge", merge, 3, 6, 0, 0, 0},
+                                    {"period_length", period_length, 1, 7, 0, 0, 0},
+                                    {"enumerate", enumerate, 1, 8, COUNT, MODULUS, WIDE},
+                                    {"tally", tally, 1, 9, COUNT, MODULUS, 0},
+                                    {"look_up by its address", by_address, 3, 2, 0, 0, WIDE}};
 
 static int checks, failures;
 
@@ -72,9 +80,9 @@ static void one_slice(const struct call *c, size_t slice, int null, size_t len) 
     n[slice] = len;
     memset(seen, 0, sizeof seen);
     memset(seen_number, 0, sizeof seen_number);
-    seen_who = 0;
-    check(c->make(p, n) == c->reply && seen_number[0] == c->length && seen_number[1] == c->modulus, c->name, slice);
-    check(seen_who == (c->reply == 2 ? WHO : 0), c->name, slice);
+    seen_wide = 0;
+    check(c->make(p, n) == c->reply && seen_number[0] == c->number && seen_number[1] == c->modulus, c->name, slice);
+    check(seen_wide == c->wide, c->name, slice);
     for (size_t i = 0; i < c->slices; i++) {
         int put_in = i == slice && null && len == 0;
         check((put_in ? seen[i] != NULL : seen[i] == p[i]) && seen_len[i] == n[i], c->name, i);

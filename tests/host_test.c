@@ -1,6 +1,8 @@
 /* The C interface from C: every refusal with its place and order, every verdict, found and made, what editors and visitors see, every byte
- * at every place of a typed line, merged queries, periods, buffers of every wrong length, NULL for every slice, and that a refusal changes no
- * byte. Expected values are the scope's cases or follow from its words; guard bytes stand around every buffer. It is built as C++ too. */
+ * at every place of a typed line, merged queries, periods, the census, buffers of every wrong length, NULL for every slice, and that a
+ * refusal changes no byte. Expected values are the scope's cases or follow from its words; guard bytes stand around every buffer. It is built
+ * as C++ too.
+ * Usage: host_test [whole]; without whole the census makes one in sixteen of the calls that take longest under valgrind. */
 #include "diverthrone.h"
 
 #include <stdio.h>
@@ -146,6 +148,22 @@ static uint64_t period_length(struct lent *digits) {
     keep(digits);
     uint64_t reply = diverthrone_period_length(given(digits), digits->len);
     check(unchanged(digits), "period_length leaves the cells and what is around them");
+    return reply;
+}
+
+static uint64_t enumerate(uint32_t m, uint32_t n, uint64_t number, struct lent *query) {
+    called = "enumerate";
+    keep(query);
+    uint64_t reply = diverthrone_enumerate(m, n, number, given(query), query->len);
+    check(guarded(query), "enumerate keeps to the query");
+    return reply;
+}
+
+static uint64_t tally(uint32_t m, uint32_t n, struct lent *counts) {
+    called = "tally";
+    keep(counts);
+    uint64_t reply = diverthrone_tally(m, n, given(counts), counts->len);
+    check(guarded(counts), "tally keeps to the cells");
     return reply;
 }
 
@@ -1590,6 +1608,347 @@ static void at_odd_addresses(void) {
         }
 }
 
+/* ---- the census ---- */
+
+enum { TALLY = DIVERTHRONE_TALLY_BYTES, LENGTHS = TALLY / 2, MOST = 4096 };
+
+/* Of the records of all sequences and of the tallies of one term, one in so many is made. */
+static unsigned every = 16;
+
+/* m^n, or 0 where it is above 4,096. */
+static unsigned power(unsigned m, unsigned n) {
+    unsigned p = 1;
+    for (unsigned i = 0; i < n && p > 0; i++) p = p * m > MOST ? 0 : p * m;
+    return p;
+}
+
+/* The next sequence in dictionary order; 0 after the last. */
+static int next(unsigned m, unsigned n, unsigned *terms) {
+    while (n > 0 && ++terms[n - 1] == m) terms[--n] = 0;
+    return n > 0;
+}
+
+static void numbers_by_hand(void) {
+    static const struct {
+        unsigned m, n, number, terms[LENGTHS];
+    } some[] = {
+        {2, 0, 0, {0}},          {4095, 0, 0, {0}},           {2, 1, 0, {0}},       {2, 1, 1, {1}},        {4095, 1, 4094, {4094}},
+        {4095, 1, 256, {256}},   {4093, 1, 255, {255}},       {2, 3, 0, {0, 0, 0}}, {2, 3, 1, {0, 0, 1}},  {2, 3, 3, {0, 1, 1}},
+        {2, 3, 4, {1, 0, 0}},    {2, 3, 6, {1, 1, 0}},        {2, 3, 7, {1, 1, 1}}, {10, 3, 7, {0, 0, 7}}, {10, 3, 70, {0, 7, 0}},
+        {10, 3, 275, {2, 7, 5}}, {10, 3, 999, {9, 9, 9}},     {64, 2, 63, {0, 63}}, {64, 2, 64, {1, 0}},   {64, 2, 4095, {63, 63}},
+        {16, 3, 256, {1, 0, 0}}, {16, 3, 2748, {10, 11, 12}}, {2, 12, 2048, {1}},   {3, 7, 729, {1}},      {4, 6, 27, {0, 0, 0, 1, 2, 3}}};
+    for (size_t i = 0; i < sizeof some / sizeof *some; i++) {
+        char what[64];
+        snprintf(what, sizeof what, "number %u of %u terms modulo %u", some[i].number, some[i].n, some[i].m);
+        make_query(&want, some[i].m, some[i].terms, some[i].n);
+        lend(&q, QUERY, 0x5A);
+        check(enumerate(some[i].m, some[i].n, some[i].number, &q) == 0, what);
+        check(memcmp(start(&q), start(&want), QUERY) == 0, what);
+    }
+}
+
+/* For 6 and 12 the counts of lengths up to l are the products of those for the parts that are prime to each other, as for merged queries. */
+static void tallies_by_hand(void) {
+    static const struct {
+        unsigned m, n, counts[LENGTHS];
+    } some[] = {{2, 0, {1}},
+                {4095, 0, {1}},
+                {2, 1, {1, 1}},
+                {4, 1, {1, 3}},
+                {4095, 1, {1, 4094}},
+                {2, 2, {1, 2, 1}},
+                {3, 2, {1, 6, 2}},
+                {4, 2, {1, 10, 5}},
+                {6, 2, {1, 20, 15}},
+                {12, 2, {1, 76, 67}},
+                {61, 2, {1, 3660, 60}},
+                {64, 2, {1, 2730, 1365}},
+                {2, 3, {1, 2, 4, 1}},
+                {3, 3, {1, 6, 18, 2}},
+                {2, 4, {1, 2, 8, 4, 1}},
+                {6, 4, {1, 20, 650, 514, 111}},
+                {5, 5, {1, 20, 500, 2500, 100, 4}},
+                {2, 12, {1, 2, 8, 32, 128, 512, 2048, 1024, 256, 64, 16, 4, 1}}};
+    for (size_t i = 0; i < sizeof some / sizeof *some; i++) {
+        char what[64];
+        snprintf(what, sizeof what, "the tally of %u terms modulo %u", some[i].n, some[i].m);
+        lend(&cells, TALLY, 0xFF);
+        check(tally(some[i].m, some[i].n, &cells) == 0, what);
+        for (size_t l = 0; l < LENGTHS; l++) check(diverthrone_cell(start(&cells), l) == some[i].counts[l], what);
+    }
+}
+
+/* The census makes very many calls, so their buffer has less around it. `due` is what it should hold after one, with the bytes around it. */
+static uint8_t room[GUARD + 2 * QUERY + GUARD], due[sizeof room];
+
+static void lend_room(size_t len) {
+    memset(due, 0xA5, sizeof due);
+    memset(due + GUARD, 0x5A, len);
+    memcpy(room, due, sizeof due);
+}
+
+/* What a failure needs to be found again is put together only for one. */
+static void check_census(int ok, uint32_t m, uint32_t n, uint64_t number, const char *what) {
+    char text[128] = "";
+    if (!ok)
+        snprintf(text, sizeof text, "%s: modulus %lu, count %lu, number %llu", what, (unsigned long)m, (unsigned long)n,
+                 (unsigned long long)number);
+    check(ok, text);
+}
+
+static void enumerate_in_room(uint64_t reply, uint32_t m, uint32_t n, uint64_t number, size_t len) {
+    called = "enumerate";
+    check_census(diverthrone_enumerate(m, n, number, room + GUARD, len) == reply, m, n, number, "the reply");
+    check_census(memcmp(room, due, sizeof room) == 0, m, n, number, "the query and what is around it");
+}
+
+static void tally_in_room(uint64_t reply, uint32_t m, uint32_t n, size_t len) {
+    called = "tally";
+    check_census(diverthrone_tally(m, n, room + GUARD, len) == reply, m, n, 0, "the reply");
+    check_census(memcmp(room, due, sizeof room) == 0, m, n, 0, "the cells and what is around them");
+}
+
+static void not_enumerated(unsigned refusal, uint32_t m, uint32_t n, uint64_t number, size_t len) {
+    lend_room(len);
+    enumerate_in_room(refusal, m, n, number, len);
+}
+
+static void not_tallied(unsigned refusal, uint32_t m, uint32_t n, size_t len) {
+    lend_room(len);
+    tally_in_room(refusal, m, n, len);
+}
+
+static void enumerated(unsigned m, unsigned n, unsigned number, const unsigned *terms) {
+    lend_room(QUERY);
+    memset(due + GUARD, 0, QUERY);
+    put(due + GUARD, 0, m), put(due + GUARD, 1, n);
+    for (unsigned i = 0; i < n; i++) put(due + GUARD, 2 + i, terms[i]);
+    enumerate_in_room(0, m, n, number, QUERY);
+}
+
+static void tallied(unsigned m, unsigned n, const unsigned counts[LENGTHS]) {
+    lend_room(TALLY);
+    for (size_t l = 0; l < LENGTHS; l++) put(due + GUARD, l, counts[l]);
+    tally_in_room(0, m, n, TALLY);
+}
+
+/* Whether from place l on each term is a sum of the l terms before it, with the same coefficients: every list of them is tried. */
+static int has_register(unsigned m, unsigned n, const unsigned *terms, unsigned l) {
+    unsigned list[LENGTHS] = {0};
+    do {
+        unsigned place = l, left = 0;
+        for (; place < n && left == 0; place++) {
+            left = terms[place];
+            for (unsigned i = 0; i < l; i++) left += list[i] * terms[place - 1 - i];
+            left %= m;
+        }
+        if (left == 0) return 1;
+    } while (next(m, l, list));
+    return 0;
+}
+
+static unsigned least_of_lists(unsigned m, unsigned n, const unsigned *terms) {
+    unsigned l = 0;
+    while (!has_register(m, n, terms, l)) l++;
+    return l;
+}
+
+static int is_prime(unsigned m) {
+    for (unsigned d = 2; d * d <= m; d++)
+        if (m % d == 0) return 0;
+    return 1;
+}
+
+static unsigned inverse(unsigned m, unsigned x) {
+    unsigned y = 1;
+    while (x * y % m != 1) y++;
+    return y;
+}
+
+/* The least length modulo a prime by Massey's rule: where a fails, a multiple of b is taken off it, moved by so many places. b is the a that
+ * failed when the length last grew. */
+static unsigned least_of_prime(unsigned m, unsigned n, const unsigned *terms) {
+    unsigned a[LENGTHS + 1] = {1}, b[LENGTHS + 1] = {1}, kept[LENGTHS + 1], l = 0, moved = 1, failed = 1;
+    for (unsigned k = 0; k < n; k++, moved++) {
+        unsigned off = 0;
+        for (unsigned i = 0; i <= l; i++) off += a[i] * terms[k - i];
+        off %= m;
+        if (off == 0) continue;
+        memcpy(kept, a, sizeof a);
+        unsigned times = off * inverse(m, failed) % m;
+        for (unsigned i = moved; i <= LENGTHS; i++) a[i] = (a[i] + (m - times) * b[i - moved]) % m;
+        if (2 * l > k) continue;
+        l = k + 1 - l, failed = off, moved = 0;
+        memcpy(b, kept, sizeof b);
+    }
+    return l;
+}
+
+/* (m - 1) m^min(2n - 2l, 2l - 1) for a prime. */
+static void meets_formula(unsigned m, unsigned n, const unsigned *counts) {
+    for (unsigned l = 1; l <= n; l++) {
+        unsigned e = 2 * n - 2 * l < 2 * l - 1 ? 2 * n - 2 * l : 2 * l - 1;
+        check_census(counts[l] == (m - 1) * power(m, e), m, n, l, "the formula for a prime");
+    }
+}
+
+static unsigned common(unsigned x, unsigned y) { return y == 0 ? x : common(y, x % y); }
+
+/* Two terms have a length up to 1 where the second is a multiple of the first; x has m / gcd(x, m) multiples modulo m. */
+static void meets_multiples(unsigned m, const unsigned *counts) {
+    unsigned pairs = 0;
+    for (unsigned x = 0; x < m; x++) pairs += m / common(x, m);
+    check_census(counts[0] + counts[1] == pairs, m, 2, 0, "two terms, the second a multiple of the first");
+}
+
+static void meets_words(unsigned m, unsigned n, const unsigned *counts) {
+    unsigned sum = 0;
+    for (unsigned l = 0; l < LENGTHS; l++) sum += counts[l];
+    check_census(sum == power(m, n) && counts[0] == 1, m, n, 0, "the sum and cell 0");
+    if (is_prime(m)) meets_formula(m, n, counts);
+    if (n == 2) meets_multiples(m, counts);
+}
+
+/* The sequence at its number, and that its query has a record, with the least length. */
+static void one_sequence(unsigned m, unsigned n, unsigned number, const unsigned *terms, unsigned length) {
+    uint8_t record[RECORD];
+    enumerated(m, n, number, terms);
+    if (is_prime(m)) check_census(least_of_prime(m, n, terms) == length, m, n, number, "the least length in two ways");
+    if (number % every != 0) return;
+    check_census(diverthrone_synthesize(room + GUARD, QUERY, record, RECORD) == 0, m, n, number, "its record");
+    check_census(diverthrone_cell(record + DIVERTHRONE_LENGTH_PLACE, 0) == length, m, n, number, "the length in its record");
+}
+
+/* Every sequence in dictionary order, and then the tally. */
+static void all_sequences(unsigned m, unsigned n) {
+    unsigned terms[LENGTHS] = {0}, counts[LENGTHS] = {0}, number = 0;
+    do {
+        unsigned length = least_of_lists(m, n, terms);
+        one_sequence(m, n, number, terms, length);
+        counts[length]++, number++;
+    } while (next(m, n, terms));
+    meets_words(m, n, counts);
+    tallied(m, n, counts);
+}
+
+/* Every modulus and count with more than one term, and one term modulo the largest prime and the largest modulus. */
+static void whole_census(void) {
+    for (unsigned m = 2; m <= 64; m++)
+        for (unsigned n = 2; power(m, n) > 0; n++) all_sequences(m, n);
+    all_sequences(4093, 1), all_sequences(4095, 1);
+}
+
+/* One term has length 0 where it is 0, else 1. */
+static void one_term_tallied(unsigned m) {
+    const unsigned counts[LENGTHS] = {1, m - 1};
+    meets_words(m, 1, counts);
+    tallied(m, 1, counts);
+}
+
+/* Modulo some primes or all of them, and modulo some other numbers. */
+static void one_term(void) {
+    static const unsigned others[] = {4, 6, 8, 9, 60, 64, 210, 256, 257 * 3, 2048, 2310, 3600, 4092, 4094};
+    unsigned primes = 0;
+    for (unsigned m = 2; m <= 4095; m++)
+        if (is_prime(m) && (primes++ % every == 0 || m < 64)) one_term_tallied(m);
+    for (size_t i = 0; i < sizeof others / sizeof *others; i++) one_term_tallied(others[i]);
+}
+
+static void no_terms(void) {
+    const unsigned counts[LENGTHS] = {1};
+    for (unsigned m = 2; m <= 4095; m++) {
+        enumerated(m, 0, 0, counts);
+        not_enumerated(33, m, 0, 1, QUERY);
+        tallied(m, 0, counts);
+    }
+}
+
+/* The first number, the last, and some past it; cut to 32 or 16 bits, these would be numbers of sequences. */
+static void ends_of_numbers(void) {
+    for (unsigned m = 2; m <= 4095; m++)
+        for (unsigned n = 1; power(m, n) > 0; n++) {
+            unsigned zeros[LENGTHS] = {0}, last[LENGTHS], p = power(m, n);
+            const uint64_t past[] = {
+                p, p + 1, 65536, 65536 + p - 1, UINT64_C(1) << 32, (UINT64_C(1) << 32) + p - 1, UINT64_C(1) << 63, UINT64_MAX};
+            for (unsigned i = 0; i < LENGTHS; i++) last[i] = m - 1;
+            enumerated(m, n, 0, zeros), enumerated(m, n, p - 1, last);
+            for (size_t i = 0; i < (m <= 64 ? sizeof past / sizeof *past : 1); i++) not_enumerated(33, m, n, past[i], QUERY);
+        }
+}
+
+/* Powers above 4,096; cut to some bits, many of them would be below it, and those of 2 would be 0. */
+static void powers_above(void) {
+    for (unsigned m = 2; m <= 4095; m++) {
+        unsigned n = 2;
+        while (power(m, n) > 0) n++;
+        for (; n <= 128; n = m <= 64 ? n + 1 : 2 * n) not_enumerated(33, m, n, 0, QUERY), not_tallied(33, m, n, TALLY);
+    }
+}
+
+/* The refusal in the order of the header; `wanted` is the length that the buffer should have. */
+static unsigned census_refusal(size_t wanted, size_t len, uint32_t m, uint32_t n, uint64_t number) {
+    if (len != wanted) return 5;
+    if (m < 2 || m > 4095) return 1;
+    if (n > 128) return 2;
+    return number < power(m, n) ? 0 : 33;
+}
+
+/* Moduli, counts, numbers and lengths at their ends, and such that would be others if they were cut: each with each. */
+static const uint32_t census_moduli[] = {0, 1, 2, 4, 16, 17, 64, 65, 4095, 4096, 65535, 65536, 65538, 0x80000002, 0xFFFFFFFF};
+static const uint32_t census_counts[] = {0, 1, 2, 3, 12, 13, 128, 129, 130, 256, 259, 65536, 65539, 0x80000003, 0xFFFFFFFF};
+static const uint64_t census_numbers[] = {0, 1, 7, 8, 4095, 4096, 65536, 65537, UINT64_C(4294967296), UINT64_C(4294967297), UINT64_MAX};
+static const size_t census_lens[] = {0, 1, 13, 24, 25, 26, 27, 28, 52, 130, 258, 259, 260, 261, 262, 516, 520};
+
+enum { MODULI = sizeof census_moduli / sizeof *census_moduli, COUNTS_TRIED = sizeof census_counts / sizeof *census_counts };
+
+static void each_number(size_t len, uint32_t m, uint32_t n) {
+    for (size_t i = 0; i < sizeof census_numbers / sizeof *census_numbers; i++) {
+        unsigned refusal = census_refusal(QUERY, len, m, n, census_numbers[i]);
+        if (refusal != 0) not_enumerated(refusal, m, n, census_numbers[i], len);
+    }
+}
+
+static void census_refusals(void) {
+    for (size_t i = 0; i < sizeof census_lens / sizeof *census_lens; i++)
+        for (size_t j = 0; j < (size_t)MODULI * COUNTS_TRIED; j++) {
+            uint32_t m = census_moduli[j / COUNTS_TRIED], n = census_counts[j % COUNTS_TRIED];
+            unsigned refusal = census_refusal(TALLY, census_lens[i], m, n, 0);
+            if (refusal != 0) not_tallied(refusal, m, n, census_lens[i]);
+            each_number(census_lens[i], m, n);
+        }
+}
+
+/* The order of the refusals by hand; a buffer is a byte short with 5. */
+static void census_order(void) {
+    static const struct {
+        unsigned refusal;
+        uint32_t m, n;
+        uint64_t number;
+    } some[] = {{5, 2, 3, 0},   {5, 1, 3, 0},      {5, 2, 129, 0},  {5, 2, 13, 0},   {5, 2, 3, 8},    {5, 1, 129, 8},     {1, 1, 3, 0},
+                {1, 1, 13, 0},  {1, 0, 129, 0},    {1, 4096, 1, 0}, {1, 1, 3, 8},    {1, 4096, 2, 0}, {1, 1, 129, 8},     {2, 2, 129, 0},
+                {2, 2, 129, 1}, {2, 4095, 129, 0}, {33, 2, 13, 0},  {33, 2, 128, 0}, {33, 65, 2, 0},  {33, 4095, 128, 0}, {33, 17, 3, 0}};
+    for (size_t i = 0; i < sizeof some / sizeof *some; i++) {
+        size_t less = some[i].refusal == 5;
+        not_enumerated(some[i].refusal, some[i].m, some[i].n, some[i].number, QUERY - less);
+        not_tallied(some[i].refusal, some[i].m, some[i].n, TALLY - less);
+    }
+    not_enumerated(33, 2, 3, 8, QUERY), not_enumerated(33, 2, 0, 1, QUERY), not_enumerated(33, 4095, 1, 4095, QUERY);
+}
+
+/* A query and the cells may begin at any address. */
+static void census_at_odd_addresses(void) {
+    static const uint8_t number_6[] = {2, 0, 3, 0, 1, 0, 1}, counts[] = {1, 0, 2, 0, 4, 0, 1};
+    called = "enumerate and tally, at an odd address";
+    for (size_t at = GUARD - 8; at <= GUARD + 8; at++) {
+        memset(room, 0xA5, sizeof room), memset(due, 0xA5, sizeof due);
+        memset(due + at, 0, QUERY), memcpy(due + at, number_6, sizeof number_6);
+        check(diverthrone_enumerate(2, 3, 6, room + at, QUERY) == 0 && memcmp(room, due, sizeof room) == 0, "a query at any address");
+        memset(room, 0xA5, sizeof room), memset(due, 0xA5, sizeof due);
+        memset(due + at, 0, TALLY), memcpy(due + at, counts, sizeof counts);
+        check(diverthrone_tally(2, 3, room + at, TALLY) == 0 && memcmp(room, due, sizeof room) == 0, "cells at any address");
+    }
+}
+
 /* ---- NULL ---- */
 
 /* NULL with length 0 in each place of each call. */
@@ -1629,6 +1988,10 @@ static void nothing_lent(void) {
     refused(merge(&null, &null, &merged), 5, &merged, "merge: NULL for the two queries");
     refused(merge(&null, &null, &null), 5, &null, "merge: NULL for all three");
     refused(period_length(&null), 32, &null, "period_length: NULL for the cells is none of them");
+    refused(enumerate(2, 3, 6, &null), 5, &null, "enumerate: NULL for the query");
+    refused(enumerate(1, 129, 8, &null), 5, &null, "enumerate: NULL for the query, and all else is wrong too");
+    refused(tally(2, 3, &null), 5, &null, "tally: NULL for the cells");
+    refused(tally(1, 129, &null), 5, &null, "tally: NULL for the cells, and all else is wrong too");
 }
 
 static void of_records(void) {
@@ -1695,11 +2058,26 @@ static void of_periods(void) {
     at_odd_addresses();
 }
 
-int main(void) {
+static void of_the_census(void) {
+    numbers_by_hand();
+    tallies_by_hand();
+    whole_census();
+    one_term();
+    no_terms();
+    ends_of_numbers();
+    powers_above();
+    census_refusals();
+    census_order();
+    census_at_odd_addresses();
+}
+
+int main(int argc, char **argv) {
+    if (argc > 1 && strcmp(argv[1], "whole") == 0) every = 1;
     of_records();
     of_lines();
     of_merges();
     of_periods();
+    of_the_census();
     nothing_lent();
     printf("host test: %d checks, %d failed\n", checks, failures);
     return failures != 0;

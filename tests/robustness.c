@@ -2,9 +2,9 @@
  *
  *   robustness --back, robustness --front
  *       replays the script on standard input and writes the same text as the second program for verify, generate, synthesize, look_up,
- *       read_line, merge and period_length; the other operations are passed over. --back puts the end of each buffer at the forbidden page,
- *       --front its start; every other call hands over NULL for its empty buffers, and the same buffer for two equal queries that are
- *       merged, and the others a number above 2^32 that ends like an editor's for a visitor.
+ *       read_line, merge, period_length, enumerate and tally; the other operations are passed over. --back puts the end of each buffer at the
+ *       forbidden page, --front its start; every other call hands over NULL for its empty buffers, and the same buffer for two equal queries
+ *       that are merged, and the others a number above 2^32 that ends like an editor's for a visitor.
  *       To standard error go how many records with an accession number were found for editors, and for visitors of such a number, and how
  *       many queries were merged with themselves in one buffer.
  *   robustness --expand SEED COPIES
@@ -22,18 +22,21 @@
 #include <unistd.h>
 
 enum { VERIFY = 4, GENERATE = 5, SYNTHESIZE = 6, LOOK_UP = 7, FORGE = 8, READ_LINE = 10, PUSH_ALL = 11, MERGE = 12, PERIOD_LENGTH = 13 };
+enum { ENUMERATE = 14, TALLY = 15 };
 enum { HEADER = 16, WIDEST = 65535, PAINT = 0xC3, NEAR = 1024 };
 enum { QUERY = DIVERTHRONE_QUERY_BYTES, A = DIVERTHRONE_A_BYTES, B = DIVERTHRONE_B_BYTES, RECORD = DIVERTHRONE_RECORD_BYTES };
 enum { LENGTH_AT = DIVERTHRONE_LENGTH_PLACE, A_AT = DIVERTHRONE_A_PLACE, B_AT = DIVERTHRONE_B_PLACE, NUMBER_AT = DIVERTHRONE_NUMBER_PLACE };
 
-static const char *const names[] = {"open",    "push",  "register", "profile",   "verify",   "generate", "synthesize",
-                                    "look_up", "forge", "trace",    "read_line", "push_all", "merge",    "period_length"};
-static const size_t input_counts[] = {0, 0, 0, 0, 3, 2, 1, 2, 1, 0, 1, 1, 2, 1};
+static const char *const names[] = {"open",  "push",  "register",  "profile",  "verify", "generate",      "synthesize", "look_up",
+                                    "forge", "trace", "read_line", "push_all", "merge",  "period_length", "enumerate",  "tally"};
+static const size_t input_counts[] = {0, 0, 0, 0, 3, 2, 1, 2, 1, 0, 1, 1, 2, 1, 0, 0};
 
-/* One call of a script; the inputs come first among its buffers, a buffer lent for writing follows them. */
+/* One call of a script; the inputs come first among its buffers, a buffer lent for writing follows them. Enumerate and tally have a count,
+ * and enumerate which of the sequences is asked for. */
 struct call {
     unsigned op, fill;
-    uint32_t number, l;
+    uint32_t number, l, count;
+    uint64_t which;
     size_t len[3];
     uint8_t bytes[3][WIDEST + 1];
 };
@@ -65,6 +68,9 @@ static void number_to(uint8_t *s, uint32_t v, size_t bytes) {
     for (size_t i = 0; i < bytes; i++) s[i] = (uint8_t)(v >> 8 * i);
 }
 
+/* What stands behind the header of enumerate and tally, in bytes. */
+static size_t numbers_of(const struct call *c) { return c->op == ENUMERATE ? 12 : c->op == TALLY ? 4 : 0; }
+
 /* The text ends as the second program's does, so that broken scripts can be compared too. */
 static void broken(const char *how) {
     printf("script %s\n", how);
@@ -79,12 +85,15 @@ static int read_call(struct call *c) {
     if (got == 0) return 0;
     if (got < HEADER) broken("cut short");
     snprintf(unknown, sizeof unknown, "unknown %u", (unsigned)h[0]);
-    if (h[0] > PERIOD_LENGTH) broken(unknown);
+    if (h[0] > TALLY) broken(unknown);
     c->op = h[0], c->fill = h[1], c->number = number_at(h + 4, 4), c->l = number_at(h + 14, 2);
     for (size_t i = 0; i < 3; i++) c->len[i] = number_at(h + 8 + 2 * i, 2);
     if (c->op == FORGE && c->len[0] != QUERY) broken("bad forge");
     for (size_t i = 0; i < inputs(c); i++)
         if (fread(c->bytes[i], 1, c->len[i], stdin) != c->len[i]) broken("cut short");
+    uint8_t numbers[12] = {0};
+    if (fread(numbers, 1, numbers_of(c), stdin) != numbers_of(c)) broken("cut short");
+    c->count = number_at(numbers, 4), c->which = (uint64_t)number_at(numbers + 8, 4) << 32 | number_at(numbers + 4, 4);
     return 1;
 }
 
@@ -95,6 +104,9 @@ static void write_call(const struct call *c) {
     number_to(h + 14, c->l, 2);
     fwrite(h, 1, HEADER, stdout);
     for (size_t i = 0; i < inputs(c); i++) fwrite(c->bytes[i], 1, c->len[i], stdout);
+    uint8_t numbers[12];
+    number_to(numbers, c->count, 4), number_to(numbers + 4, (uint32_t)c->which, 4), number_to(numbers + 8, (uint32_t)(c->which >> 32), 4);
+    fwrite(numbers, 1, numbers_of(c), stdout);
 }
 
 /* ---- the guarded areas ---- */
@@ -179,6 +191,8 @@ static uint64_t enter(const struct call *c, uint8_t *const p[3]) {
     case READ_LINE: return diverthrone_read_line(p[0], n[0], p[1], n[1]);
     case MERGE: return diverthrone_merge(p[0], n[0], p[1], n[1], p[2], n[2]);
     case PERIOD_LENGTH: return diverthrone_period_length(p[0], n[0]);
+    case ENUMERATE: return diverthrone_enumerate(c->number, c->count, c->which, p[0], n[0]);
+    case TALLY: return diverthrone_tally(c->number, c->count, p[0], n[0]);
     default: return diverthrone_look_up(p[0], n[0], p[1], n[1], asker(c), p[2], n[2]);
     }
 }
@@ -672,6 +686,57 @@ static void query_of_period(struct call *c) {
     synthesize_query(c);
 }
 
+/* How many sequences there are, 0 where they are too many or there are none. */
+static uint32_t sequences(const struct call *c) {
+    uint32_t p = 1;
+    if (c->number < 2 || c->number > 4095 || c->count > 128) return 0;
+    for (uint32_t i = 0; i < c->count && p > 0; i++) p = p * c->number > 4096 ? 0 : p * c->number;
+    return p;
+}
+
+/* Another modulus, most often a small one, and a count that it may have, with any of the sequences. */
+static void legal_census(struct call *c) {
+    uint32_t r = any();
+    const uint32_t moduli[] = {2 + r % 8, 2 + r % 8, 2 + r % 63, 2 + r % 4094};
+    c->number = pick(moduli, 4), c->count = below(13);
+    while (sequences(c) == 0) c->count--;
+    c->which = below(sequences(c));
+}
+
+static void census_modulus(struct call *c) {
+    uint32_t m = c->number, r = any(), values[] = {0, 1, 2, m - 1, m + 1, 64, 65, 4095, 4096, m + 65536, 2 + r % 63, r % 4096, r};
+    c->number = pick(values, sizeof values / sizeof *values);
+}
+
+static void census_count(struct call *c) {
+    uint32_t n = c->count, r = any(), values[] = {n - 1, n + 1, 0, 1, 12, 13, 128, 129, n + 256, n + 65536, r % 13, r % 129, r};
+    c->count = pick(values, sizeof values / sizeof *values);
+}
+
+/* Numbers at the end of the sequences, and such that would be others if they were cut. */
+static void other_sequence(struct call *c) {
+    uint64_t w = c->which, p = sequences(c), high = any(), low = any(), legal = p ? low % p : low;
+    const uint64_t values[] = {0, p - 1, p, p + 1, w + 1, w - 1, w + 65536, w + (high << 32), high << 32 | low, UINT64_MAX, legal, legal};
+    c->which = values[below(sizeof values / sizeof *values)];
+}
+
+/* A tally becomes a question for a sequence; the other way one time in three, since a tally takes as long as all its sequences. */
+static void other_question(struct call *c) {
+    int numbered = c->op == ENUMERATE;
+    if (numbered && below(3) > 0) return;
+    c->op = numbered ? TALLY : ENUMERATE, c->len[0] = numbered ? DIVERTHRONE_TALLY_BYTES : QUERY;
+    if (!numbered) other_sequence(c);
+}
+
+/* The sequence as a query, whose record is among those that a tally counts. */
+static void query_of_sequence(struct call *c) {
+    if (c->op != ENUMERATE || c->which >= sequences(c)) return;
+    memset(c->bytes[0], 0, QUERY), c->len[0] = QUERY;
+    set_cell(c->bytes[0], 0, c->number), set_cell(c->bytes[0], 1, c->count);
+    for (uint32_t i = c->count; i > 0; c->which /= c->number, i--) set_cell(c->bytes[0], 1 + i, (uint32_t)(c->which % c->number));
+    synthesize_query(c);
+}
+
 /* One alteration in three is followed by another one, for the order of the refusals. */
 static void alter(struct call *c) {
     static void (*const ways[])(struct call *) = {one_byte,        one_cell,        one_cell,      one_term,      one_term,     wrong_terms,
@@ -685,6 +750,9 @@ static void alter(struct call *c) {
     static void (*const period_ways[])(struct call *) = {one_byte,   other_digit, other_digit, wrong_digits,   wrong_digits, other_size,
                                                          other_size, repeated,    repeated,    any_length,     any_length,   any_length,
                                                          any_length, one_length,  one_length,  query_of_period};
+    static void (*const census_ways[])(struct call *) = {legal_census, legal_census, legal_census,   census_modulus,   census_modulus,
+                                                         census_count, census_count, other_sequence, other_sequence,   other_sequence,
+                                                         one_length,   other_fill,   other_question, query_of_sequence};
     do {
         if (c->op == READ_LINE)
             line_ways[below(sizeof line_ways / sizeof *line_ways)](c);
@@ -692,13 +760,15 @@ static void alter(struct call *c) {
             merge_ways[below(sizeof merge_ways / sizeof *merge_ways)](c);
         else if (c->op == PERIOD_LENGTH)
             period_ways[below(sizeof period_ways / sizeof *period_ways)](c);
+        else if (c->op >= ENUMERATE)
+            census_ways[below(sizeof census_ways / sizeof *census_ways)](c);
         else
             ways[below(sizeof ways / sizeof *ways)](c);
     } while (below(3) == 0);
 }
 
 static void copy(struct call *to, const struct call *from) {
-    to->op = from->op, to->fill = from->fill, to->number = from->number, to->l = from->l;
+    to->op = from->op, to->fill = from->fill, to->number = from->number, to->l = from->l, to->count = from->count, to->which = from->which;
     for (size_t i = 0; i < 3; i++) to->len[i] = from->len[i];
     for (size_t i = 0; i < inputs(from); i++) memcpy(to->bytes[i], from->bytes[i], from->len[i]);
 }

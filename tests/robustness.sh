@@ -50,7 +50,7 @@ round() {
     "$work/reference" "$1" "$2" "$3" >"$work/plan"
     "$work/sanitized" --expand "$2" "$copies" <"$work/plan" >"$work/script"
     "$work/reference" replay <"$work/script" >"$work/all"
-    grep -E '^(verify|generate|synthesize|look_up|read_line|merge|period_length) ' "$work/all" >"$work/want"
+    grep -E '^(verify|generate|synthesize|look_up|read_line|merge|period_length|enumerate|tally) ' "$work/all" >"$work/want"
     for program in sanitized plain; do
         for side in --back --front; do
             compare "$program" "$side" "$1 $2 $3 with $copies copies"
@@ -58,25 +58,25 @@ round() {
     done
     awk '
         { n[$1]++ }
-        $2 == "refused" { n[$3 != 3 && $3 != 27 && $3 != 31 ? $3 : $5 == 0 ? $3 "_at_0" : $3 "_later"]++ }
+        $2 == "refused" { n[$3 == 33 ? $3 "_" $1 : $3 != 3 && $3 != 27 && $3 != 31 ? $3 : $5 == 0 ? $3 "_at_0" : $3 "_later"]++ }
         $2 == "length" { n["length_" $3]++ }
         END { for (k in n) print k, n[k] }' "$work/want" >>"$work/tally"
     cat "$work/told" >>"$work/tally"
     calls=$((calls + $(wc -l <"$work/want")))
 }
 
-# A refusal that was never seen is a fault of the test; 3, 27 and 31 must have come at place 0 and at later ones. So is it if no record with
-# an accession number was found by an editor, or by a visitor above 2^32, or no buffer was lent as both queries of a merge, or a length of a
-# period from 0 to 64 was never given.
+# A refusal that was never seen is a fault of the test; 3, 27 and 31 must have come at place 0 and at later ones, 33 from both calls that give
+# it. So is it if no record with an accession number was found by an editor, or by a visitor above 2^32, or no buffer was lent as both queries
+# of a merge, or a length of a period from 0 to 64 was never given.
 total() {
     awk -v calls="$calls" -v seeds="$seed" -v seconds=$(($(date +%s) - began)) '
         { n[$1] += $2 }
         END {
             printf "robustness: %d calls compared, each made 4 times, 0 differences;", calls
-            operations = split("verify generate synthesize look_up read_line merge period_length", k)
+            operations = split("verify generate synthesize look_up read_line merge period_length enumerate tally", k)
             for (i = 1; i <= operations; i++) printf " %s %d,", k[i], n[k[i]]
             printf " refused"
-            refusals = split("1 2 3_at_0 3_later 4 5 6 23 24 25 26 27_at_0 27_later 28 29 30 31_at_0 31_later 32", r)
+            refusals = split("1 2 3_at_0 3_later 4 5 6 23 24 25 26 27_at_0 27_later 28 29 30 31_at_0 31_later 32 33_enumerate 33_tally", r)
             for (i = 1; i <= refusals; i++) {
                 printf " %s: %d,", r[i], n[r[i]]
                 unseen += n[r[i]] == 0
@@ -100,5 +100,6 @@ while [ "$calls" -lt "$least" ] || [ "$seed" -eq 0 ]; do
     round linecalls "$seed" 3000
     round merges "$seed" 3000
     round periods "$seed" 3000
+    round numbers "$seed" 1000
 done
 total

@@ -11,13 +11,31 @@
 #include <sys/mman.h>
 
 enum { TERMS = 128, STACK = 1 << 17, PAINT = 0xC3 };
-enum { NOTHING, VERIFY, GENERATE, SYNTHESIZE, MADE, FOUND, SHOWN, READ_LINE, MERGE, GOLDEN, PERIOD, REGISTER, TRACE, KINDS };
+enum {
+    NOTHING,
+    VERIFY,
+    GENERATE,
+    SYNTHESIZE,
+    MADE,
+    FOUND,
+    SHOWN,
+    READ_LINE,
+    MERGE,
+    GOLDEN,
+    PERIOD,
+    ENUMERATE,
+    TALLY,
+    REGISTER,
+    TRACE,
+    KINDS
+};
 
 uint64_t timing_register(uint32_t m, uint32_t count, const uint32_t *terms, uint8_t *a, size_t a_len, uint8_t *b, size_t b_len);
 uint64_t timing_trace(uint32_t m, uint32_t count, const uint32_t *terms, uint8_t *a, size_t a_len, uint8_t *b, size_t b_len);
 
-static const char *const names[KINDS] = {"no call",   "verify", "generate",     "synthesize",    "look_up made", "look_up found", "editor",
-                                         "read_line", "merge",  "merge golden", "period_length", "register",     "trace"};
+static const char *const names[KINDS] = {"no call",       "verify",    "generate",  "synthesize", "look_up made",
+                                         "look_up found", "editor",    "read_line", "merge",      "merge golden",
+                                         "period_length", "enumerate", "tally",     "register",   "trace"};
 static uint8_t *stack, *caller;
 static uint8_t query[DIVERTHRONE_QUERY_BYTES], record[DIVERTHRONE_RECORD_BYTES], shelf[DIVERTHRONE_RECORD_BYTES], cells[2 * TERMS];
 static uint8_t a_cells[DIVERTHRONE_A_BYTES], b_cells[DIVERTHRONE_B_BYTES];
@@ -35,6 +53,10 @@ static struct merge {
 /* A period of 64 digits, the most that there are, and the reply to it. */
 static uint8_t period[TERMS];
 static uint64_t period_reply;
+
+/* So many terms, so many sequences of them; the query of the last one, and their tally. */
+static uint32_t census_terms, sequences;
+static uint8_t numbered[DIVERTHRONE_QUERY_BYTES], tallied[DIVERTHRONE_TALLY_BYTES];
 
 static uint32_t below(uint32_t n) {
     state = state * 6364136223846793005u + 1442695040888963407u;
@@ -60,6 +82,8 @@ static uint64_t enter(int kind) {
     case MERGE: return diverthrone_merge(query, sizeof query, merges[0].second, sizeof query, merges[0].merged, sizeof query);
     case GOLDEN: return diverthrone_merge(query, sizeof query, merges[1].second, sizeof query, merges[1].merged, sizeof query);
     case PERIOD: return diverthrone_period_length(period, sizeof period);
+    case ENUMERATE: return diverthrone_enumerate(modulus, census_terms, sequences - 1, numbered, sizeof numbered);
+    case TALLY: return diverthrone_tally(modulus, census_terms, tallied, sizeof tallied);
     case REGISTER: return (uint32_t)timing_register(modulus, TERMS, terms, a_cells, sizeof a_cells, b_cells, sizeof b_cells) != l;
     case TRACE: return timing_trace(modulus, TERMS, terms, a_cells, sizeof a_cells, b_cells, sizeof b_cells) == 0;
     default: return 0;
@@ -171,6 +195,25 @@ static void make_period(void) {
     period_reply = 256 * (uint64_t)diverthrone_cell(made + DIVERTHRONE_LENGTH_PLACE, 0);
 }
 
+/* The most terms that the modulus may have, one less, or none. */
+static void make_census(int shape) {
+    uint32_t most = 0;
+    for (sequences = modulus; sequences <= 4096; sequences *= modulus) most++;
+    census_terms = shape == 2 ? 0 : most - (uint32_t)shape;
+    sequences = 1;
+    for (uint32_t i = 0; i < census_terms; i++) sequences *= modulus;
+    memset(numbered, PAINT, sizeof numbered);
+    memset(tallied, PAINT, sizeof tallied);
+}
+
+/* In the last sequence every term is m - 1, and the cells count each sequence once. */
+static void check_census(void) {
+    uint32_t counted = 0;
+    for (size_t i = 0; i < TERMS; i++) need(diverthrone_cell(numbered, 2 + i) == (i < census_terms ? modulus - 1 : 0), "the last sequence");
+    for (size_t i = 0; i < DIVERTHRONE_TALLY_BYTES / 2; i++) counted += diverthrone_cell(tallied, i);
+    need(counted == sequences, "the sum of the tally");
+}
+
 /* The largest depths for one modulus go up into `most`. */
 static void measure(uint32_t m, size_t most[KINDS]) {
     modulus = m;
@@ -179,12 +222,14 @@ static void measure(uint32_t m, size_t most[KINDS]) {
         type_line();
         make_merges();
         make_period();
+        make_census(shape);
         need(diverthrone_synthesize(query, sizeof query, shelf, sizeof shelf) == 0, "a record for the catalogue");
         for (int kind = 0; kind < KINDS; kind++) {
             size_t d = depth(kind);
             if (d > most[kind]) most[kind] = d;
         }
         need(memcmp(typed, query, sizeof query) == 0, "the query of the line");
+        check_census();
         for (int i = 0; i < 2; i++) need(memcmp(merges[i].merged, merges[i].want, sizeof query) == 0, "the merged query");
     }
 }

@@ -8,11 +8,13 @@
 #undef diverthrone_read_line
 #undef diverthrone_merge
 #undef diverthrone_period_length
+#undef diverthrone_enumerate
+#undef diverthrone_tally
 
 const uint8_t *seen[3];
 size_t seen_len[3];
 uint32_t seen_number[2];
-uint64_t seen_who;
+uint64_t seen_wide;
 
 static void see(size_t i, const uint8_t *bytes, size_t len) { seen[i] = bytes, seen_len[i] = len; }
 
@@ -24,7 +26,7 @@ uint64_t diverthrone_synthesize(const uint8_t *query, size_t query_len, uint8_t 
 uint64_t diverthrone_look_up(const uint8_t *query, size_t query_len, const uint8_t *catalogue, size_t catalogue_len, uint64_t who,
                              uint8_t *record, size_t record_len) {
     see(0, query, query_len), see(1, catalogue, catalogue_len), see(2, record, record_len);
-    seen_who = who;
+    seen_wide = who;
     return 2;
 }
 
@@ -56,4 +58,16 @@ uint64_t diverthrone_merge(const uint8_t *first, size_t first_len, const uint8_t
 uint64_t diverthrone_period_length(const uint8_t *cells, size_t cells_len) {
     see(0, cells, cells_len);
     return 7;
+}
+
+uint64_t diverthrone_enumerate(uint32_t modulus, uint32_t count, uint64_t number, uint8_t *query, size_t query_len) {
+    see(0, query, query_len);
+    seen_number[0] = count, seen_number[1] = modulus, seen_wide = number;
+    return 8;
+}
+
+uint64_t diverthrone_tally(uint32_t modulus, uint32_t count, uint8_t *cells, size_t cells_len) {
+    see(0, cells, cells_len);
+    seen_number[0] = count, seen_number[1] = modulus;
+    return 9;
 }
