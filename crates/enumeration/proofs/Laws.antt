@@ -2,13 +2,14 @@
 -- Assumes nothing.
 use mathlib.Core.Path.{_≡_, refl, sym, ap, ap₂, _∙_, subst}
 use mathlib.Core.Logic.{_⊎_, inl, inr}
-use mathlib.Core.Bool.{true}
+use mathlib.Core.Bool.{Bool, true, false}
 use mathlib.Core.List.{List, _∷_}
 use Prim.Native.Nat.{ℕ, zero, suc, _*_, _^_, _≤_, _<_, min}
 use native.Mathlib.Nat.{pow-suc, mul-le-mul-right, pow-le-pow-left, pow-le-pow-right}
 use native.Mathlib.Decide.{decLe}
 use native.Mathlib.Omega.{arith}
-use borrow.Author.Tests.{lt-ltb, le-ltb}
+use lib.ListN.{length}
+use borrow.Author.Tests.{lt-ltb, le-ltb, eq-eqb, ne-eqb}
 use Rattle.lists.specs.Table.{at, tabulate}
 use Rattle.lists.proofs.Search.{lt-or-le}
 use Rattle.lists.proofs.Table.{at-tabulate}
@@ -22,11 +23,12 @@ use Rattle.steps.specs.Run.{Below}
 use Rattle.sequence.specs.declared.Refusal.{Refusal}
 use Rattle.sequence.specs.declared.Refusal.the-variants as R
 use Rattle.sequence.specs.declared.Outcome.the-variants.{Done, Refused}
-use Rattle.sequence.specs.Limits.{maxModulus, maxTerms}
+use Rattle.sequence.specs.Limits.{maxModulus, maxTerms, queryBytes}
 use Rattle.sequence.specs.Rules.{outside}
+use Rattle.sequence.proofs.Laws.{inside}
 use Rattle.enumeration.specs.declared.Counted.{Counted}
 use Rattle.enumeration.specs.declared.Counted.the-variants as C
-use Rattle.enumeration.specs.Rules.{maxSequences, lengths, countedOf, numberIn, queryNumbered}
+use Rattle.enumeration.specs.Rules.{maxSequences, lengths, tallyBytes, countedOf, numberIn, tallyIn, enumerateOf, queryNumbered, tallyOf}
 
 -- ---- the power
 
@@ -67,20 +69,27 @@ legal m n least most small =
 
 -- ---- what is said of m and n
 
+-- they are refused by r, or k sequences are counted
+abbrev pub RefusedBy : ℕ → ℕ → Refusal → Type 0
+RefusedBy m n r = countedOf m n ≡ C.Refused r
+
+abbrev pub Counts : ℕ → ℕ → ℕ → Type 0
+Counts m n k = countedOf m n ≡ C.Sequences k
+
 module _ (m n : ℕ) where
-  pub counted-modulus : outside m ≡ true → countedOf m n ≡ C.Refused R.Modulus
+  pub counted-modulus : outside m ≡ true → RefusedBy m n R.Modulus
   unfolding countedOf
   counted-modulus h = rw h
 
-  pub counted-count : 2 ≤ m → m ≤ maxModulus → maxTerms < n → countedOf m n ≡ C.Refused R.Count
+  pub counted-count : 2 ≤ m → m ≤ maxModulus → maxTerms < n → RefusedBy m n R.Count
   unfolding countedOf
   counted-count a b h = rw (le-ltb m 2 a, le-ltb maxModulus m b, lt-ltb maxTerms n h)
 
-  pub counted-many : 2 ≤ m → m ≤ maxModulus → n ≤ maxTerms → maxSequences < m ^ n → countedOf m n ≡ C.Refused R.Census
+  pub counted-many : 2 ≤ m → m ≤ maxModulus → n ≤ maxTerms → maxSequences < m ^ n → RefusedBy m n R.Census
   unfolding countedOf
   counted-many a b c h = rw (le-ltb m 2 a, le-ltb maxModulus m b, le-ltb maxTerms n c, lt-ltb maxSequences (m ^ n) h)
 
-  pub counted-fits : {k : ℕ} → Legal m n k → countedOf m n ≡ C.Sequences k
+  pub counted-fits : {k : ℕ} → Legal m n k → Counts m n k
   unfolding countedOf
   counted-fits {k} h =
       rw (le-ltb m 2 (h .least), le-ltb maxModulus m (h .most), le-ltb maxTerms n (h .count), le-ltb maxSequences (m ^ n) (omega (arith, h .power, h .small)))
@@ -94,23 +103,22 @@ module _ (m n : ℕ) where
 
   -- one of the four is
   pub data Count : Type 0 where
-    modulus : (m < 2) ⊎ (maxModulus < m) → countedOf m n ≡ C.Refused R.Modulus → Count
-    count : 2 ≤ m → m ≤ maxModulus → maxTerms < n → countedOf m n ≡ C.Refused R.Count → Count
-    many : 2 ≤ m → m ≤ maxModulus → n ≤ maxTerms → maxSequences < m ^ n → countedOf m n ≡ C.Refused R.Census → Count
-    fits : Legal m n (m ^ n) → countedOf m n ≡ C.Sequences (m ^ n) → Count
+    modulus : outside m ≡ true → RefusedBy m n R.Modulus → Count
+    count : 2 ≤ m → m ≤ maxModulus → maxTerms < n → RefusedBy m n R.Count → Count
+    many : 2 ≤ m → m ≤ maxModulus → n ≤ maxTerms → maxSequences < m ^ n → RefusedBy m n R.Census → Count
+    fits : Legal m n (m ^ n) → Counts m n (m ^ n) → Count
 
   pub counting : Count
-  counting = go (lt-or-le m 2) (lt-or-le maxModulus m) (lt-or-le maxTerms n) (lt-or-le maxSequences (m ^ n))
+  counting = go (outside m) refl (lt-or-le maxTerms n) (lt-or-le maxSequences (m ^ n))
     where
-      go : (m < 2) ⊎ (2 ≤ m) → (maxModulus < m) ⊎ (m ≤ maxModulus) → (maxTerms < n) ⊎ (n ≤ maxTerms) → (maxSequences < m ^ n) ⊎ (m ^ n ≤ maxSequences) → Count
-      go (inl h) b c d = modulus (inl h) (counted-modulus (rw (lt-ltb m 2 h)))
-      go (inr a) (inl h) c d = modulus (inr h) (counted-modulus (rw (le-ltb m 2 a, lt-ltb maxModulus m h)))
-      go (inr a) (inr b) (inl h) d = count a b h (counted-count a b h)
-      go (inr a) (inr b) (inr c) (inl h) = many a b c h (counted-many a b c h)
-      go (inr a) (inr b) (inr c) (inr h) = fits (legal m n a b h) (counted-fits (legal m n a b h))
+      go : (b : Bool) → outside m ≡ b → (maxTerms < n) ⊎ (n ≤ maxTerms) → (maxSequences < m ^ n) ⊎ (m ^ n ≤ maxSequences) → Count
+      go true e c d = modulus e (counted-modulus e)
+      go false e (inl h) d = let i = inside m e in count (i .0) (i .1) h (counted-count (i .0) (i .1) h)
+      go false e (inr c) (inl h) = let i = inside m e in many (i .0) (i .1) c h (counted-many (i .0) (i .1) c h)
+      go false e (inr c) (inr h) = let i = inside m e in fits (legal m n (i .0) (i .1) h) (counted-fits (legal m n (i .0) (i .1) h))
 
   -- they are counted only within the limits
-  pub counted : (k : ℕ) → countedOf m n ≡ C.Sequences k → Legal m n k
+  pub counted : (k : ℕ) → Counts m n k → Legal m n k
   counted k e = go counting
     where
       -- how many are said, if any
@@ -118,7 +126,7 @@ module _ (m n : ℕ) where
       said (C.Sequences x) = suc x
       said (C.Refused r) = zero
 
-      refused : {r : Refusal} → countedOf m n ≡ C.Refused r → ⊥
+      refused : {r : Refusal} → RefusedBy m n r → ⊥
       refused h = let z : zero ≡ suc k = ap said (sym h ∙ e) in omega arith
 
       go : Count → Legal m n k
@@ -127,13 +135,47 @@ module _ (m n : ℕ) where
       go (many a b c d h) = absurd (refused h)
       go (fits l h) = subst (Legal m n) (let z : m ^ n ≡ k = omega (arith, ap said (sym h ∙ e)) in z) l
 
--- ---- the number of a sequence
+-- ---- the replies
 
 pub number-large : (k x : ℕ) → k ≤ x → Refused R.Census ≡ numberIn (C.Sequences k) x
 number-large k x h = rw (le-ltb x k h)
 
 pub number-below : (k x : ℕ) → x < k → Done ≡ numberIn (C.Sequences k) x
 number-below k x h = rw (lt-ltb x k h)
+
+module _ (m n : ℕ) where
+  pub enumerate-buffer : (x : ℕ) (query : List ℕ) → (length query ≡ queryBytes → ⊥) → enumerateOf m n x query ≡ Refused R.Buffer
+  unfolding enumerateOf
+  enumerate-buffer x query h = rw (ne-eqb (length query) queryBytes h)
+
+  pub enumerate-counted : (x : ℕ) (query : List ℕ) {c : Counted} → length query ≡ queryBytes → countedOf m n ≡ c → enumerateOf m n x query ≡ numberIn c x
+  unfolding enumerateOf
+  enumerate-counted x query h e = rw (eq-eqb (length query) queryBytes h) (ap (λ (z : Counted). numberIn z x) e)
+
+  pub enumerate-refused : (x : ℕ) (query : List ℕ) {r : Refusal} → length query ≡ queryBytes → RefusedBy m n r → enumerateOf m n x query ≡ Refused r
+  enumerate-refused x query h e = enumerate-counted x query h e
+
+  pub enumerate-large : (x : ℕ) (query : List ℕ) {k : ℕ} → length query ≡ queryBytes → Counts m n k → k ≤ x → enumerateOf m n x query ≡ Refused R.Census
+  enumerate-large x query {k} h e b = enumerate-counted x query h e ∙ sym (number-large k x b)
+
+  pub enumerate-done : (x : ℕ) (query : List ℕ) {k : ℕ} → length query ≡ queryBytes → Counts m n k → x < k → enumerateOf m n x query ≡ Done
+  enumerate-done x query {k} h e b = enumerate-counted x query h e ∙ sym (number-below k x b)
+
+  pub tally-buffer : (cells : List ℕ) → (length cells ≡ tallyBytes → ⊥) → tallyOf m n cells ≡ Refused R.Buffer
+  unfolding tallyOf
+  tally-buffer cells h = rw (ne-eqb (length cells) tallyBytes h)
+
+  pub tally-counted : (cells : List ℕ) {c : Counted} → length cells ≡ tallyBytes → countedOf m n ≡ c → tallyOf m n cells ≡ tallyIn c
+  unfolding tallyOf
+  tally-counted cells h e = rw (eq-eqb (length cells) tallyBytes h) (ap tallyIn e)
+
+  pub tally-refused : (cells : List ℕ) {r : Refusal} → length cells ≡ tallyBytes → RefusedBy m n r → tallyOf m n cells ≡ Refused r
+  tally-refused cells h e = tally-counted cells h e
+
+  pub tally-done : (cells : List ℕ) {k : ℕ} → length cells ≡ tallyBytes → Counts m n k → tallyOf m n cells ≡ Done
+  tally-done cells h e = tally-counted cells h e
+
+-- ---- the sequence with a number
 
 -- the query of its terms
 pub query-is : (m n x : ℕ) {terms query : List ℕ} → terms ≡ tabulate maxTerms (at (listAt m n x)) → query ≡ bytesOf (m ∷ n ∷ terms) → query ≡ queryNumbered m n x

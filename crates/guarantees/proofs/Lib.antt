@@ -20,3 +20,5 @@ pub mod Merging
 pub mod MergingRows
 pub mod Periods
 pub mod PeriodRows
+pub mod Census
+pub mod CensusRows

@@ -36,13 +36,13 @@ use Rattle.guarantees.specs.Lines.{Says, Inside, ByHand, ByCells, exitOf
 
 -- ---- the last two tests
 
-inside-not : (m : ℕ) → Inside m → outside m ≡ false
+pub inside-not : (m : ℕ) → Inside m → outside m ≡ false
 inside-not m h = rw (le-ltb _ _ (h .least), le-ltb _ _ (h .most))
 
 is-inside : (m : ℕ) → outside m ≡ false → Inside m
 is-inside m h = let i = inside m h in record { least = i .0; most = i .1 }
 
-outside-is : (m : ℕ) → (Inside m → ⊥) → outside m ≡ true
+pub outside-is : (m : ℕ) → (Inside m → ⊥) → outside m ≡ true
 outside-is m h = go (outside m) refl
   where
     go : (t : Bool) → outside m ≡ t → t ≡ true

@@ -14,3 +14,5 @@ pub mod Merging
 pub mod MergingRows
 pub mod Periods
 pub mod PeriodRows
+pub mod Census
+pub mod CensusRows

@@ -1,19 +1,16 @@
 -- `enumeration::enumerate` meets its contract: each reply is the one that its tests pick.
 -- Assumes nothing.
-use mathlib.Core.Path.{refl, sym, ap, _∙_}
+use mathlib.Core.Path.{refl, sym, _∙_}
 use borrow.Author.Needs.{needs}
-use borrow.Author.Tests.{eq-eqb, ne-eqb}
-use Rattle.enumeration.specs.declared.Counted.{Counted}
-use Rattle.enumeration.specs.Rules.{numberIn, enumerateOf}
+use Rattle.enumeration.proofs.Laws.{enumerate-buffer, enumerate-counted}
 use Rattle.enumeration.proofs.Answers.{enumerate-told}
 use Rattle.enumeration.proofs.enumerate.Statement.{statement}
 use Rattle.enumeration.proofs.enumerate.Tie as tie
 
 returns : tie.Need-returns
-unfolding enumerateOf
 returns c =
     let a = c .before .before .args in
-    enumerate-told (a .m) (a .n) (a .number) (a .query .now) (simp (ne-eqb _ _ (c .if1 .taken))) refl
+    enumerate-told (a .m) (a .n) (a .number) (a .query .now) (sym (enumerate-buffer _ _ _ _ (c .if1 .taken))) refl
 
 count-sequences-requires : tie.Need-count-sequences-requires
 count-sequences-requires c κs = search needs
@@ -30,25 +27,23 @@ write-sequence-requires c κs =
     (sym (k .count-sequences .ensures) ∙ c .before .before .c2 .given .1, k .before .if1 .left)
 
 returns-2 : tie.Need-returns-2
-unfolding enumerateOf
 returns-2 c =
     let k = c .before .before .before in
     let a = k .before .before .before .args in
     enumerate-told (a .m) (a .n) (a .number) (a .query .now)
-    (simp (eq-eqb _ _ (k .before .if1 .left)) (ap (λ (z : Counted). numberIn z (a .number)) (sym (c .before .c .given .1) ∙ k .count-sequences .ensures))) refl
+    (sym (enumerate-counted _ _ _ _ (k .before .if1 .left) (sym (k .count-sequences .ensures) ∙ c .before .c .given .1))) refl
 
 same-length : tie.Need-same-length
 same-length c = search needs
 
 returns-3 : tie.Need-returns-3
-unfolding enumerateOf
 returns-3 c =
     let w = c .before .before in
     let s = w .before .before .before in
     let k = s .before .before in
     let a = k .before .before .before .args in
     enumerate-told (a .m) (a .n) (a .number) (a .query .now)
-    (simp (eq-eqb _ _ (k .before .if1 .left)) (w .write-sequence .ensures .0 ∙ ap (λ (z : Counted). numberIn z (a .number)) (sym (s .c2 .given .1) ∙ k .count-sequences .ensures)))
+    (w .write-sequence .ensures .0 ∙ sym (enumerate-counted _ _ _ _ (k .before .if1 .left) (sym (k .count-sequences .ensures) ∙ s .c2 .given .1)))
     (w .write-sequence .ensures .1)
 
 pub enumerate-spec : {M : Type 1} → statement M

@@ -1,22 +1,18 @@
 -- `enumeration::tally` meets its contract: each reply is the one that its tests pick.
 -- Assumes nothing.
 use mathlib.Core.Path.{refl, sym, ap, _∙_}
-use mathlib.Core.List.{List}
-use Prim.Native.Nat.{ℕ}
 use borrow.Author.Needs.{needs}
-use borrow.Author.Tests.{eq-eqb, ne-eqb}
 use Rattle.cells.specs.Cell.{bytesOf}
-use Rattle.enumeration.specs.declared.Counted.{Counted}
-use Rattle.enumeration.specs.Rules.{tallyIn, tallyOf, tallyCells}
+use Rattle.enumeration.specs.Rules.{tallyCells}
+use Rattle.enumeration.proofs.Laws.{tally-buffer, tally-counted}
 use Rattle.enumeration.proofs.Answers.{tally-told}
 use Rattle.enumeration.proofs.tally.Statement.{statement}
 use Rattle.enumeration.proofs.tally.Tie as tie
 
 returns : tie.Need-returns
-unfolding tallyOf
 returns c =
     let a = c .before .before .args in
-    tally-told (a .m) (a .n) (a .cells .now) (simp (ne-eqb _ _ (c .if1 .taken))) refl
+    tally-told (a .m) (a .n) (a .cells .now) (sym (tally-buffer _ _ _ (c .if1 .taken))) refl
 
 count-sequences-requires : tie.Need-count-sequences-requires
 count-sequences-requires c κs = search needs
@@ -37,18 +33,17 @@ write-requires : tie.Need-write-requires
 write-requires c κs = search needs
 
 returns-2 : tie.Need-returns-2
-unfolding tallyOf
 returns-2 c =
     let k = c .before .before .before in
     let a = k .before .before .before .args in
     tally-told (a .m) (a .n) (a .cells .now)
-    (simp (eq-eqb _ _ (k .before .if1 .left)) (ap tallyIn (sym (c .before .c .given .1) ∙ k .count-sequences .ensures))) refl
+    (sym (tally-counted _ _ _ (k .before .if1 .left) (sym (k .count-sequences .ensures) ∙ c .before .c .given .1))) refl
 
 same-length : tie.Need-same-length
 same-length c = search needs
 
 returns-3 : tie.Need-returns-3
-unfolding tallyOf tallyCells
+unfolding tallyCells
 returns-3 c =
     let w = c .before .before in
     let l = w .before .before .before in
@@ -56,7 +51,7 @@ returns-3 c =
     let k = s .before .before in
     let a = k .before .before .before .args in
     tally-told (a .m) (a .n) (a .cells .now)
-    (simp (eq-eqb _ _ (k .before .if1 .left)) (ap tallyIn (sym (s .c2 .given .1) ∙ k .count-sequences .ensures)))
+    (sym (tally-counted _ _ _ (k .before .if1 .left) (sym (k .count-sequences .ensures) ∙ s .c2 .given .1)))
     (w .write .ensures ∙ ap bytesOf (l .count-lengths .ensures))
 
 pub tally-spec : {M : Type 1} → statement M
