@@ -11,7 +11,9 @@ within : (z : tie.Start) → Legal (z .args .m) (z .args .n) (z .args .k)
 within z = counted _ _ _ (z .pre .0)
 
 returns : tie.Need-returns
-returns c = (number-large _ _ (c .if1 .taken), refl)
+returns c =
+    let a = c .before .before .args in
+    (number-large (a .k) (a .number) (omega (arith, c .if1 .taken)), refl)
 
 cast-digits : tie.Need-cast-digits
 cast-digits c = omega (arith, within (c .before .before) .small)
@@ -31,7 +33,8 @@ returns-2 : tie.Need-returns-2
 returns-2 c =
     let q = c .before .before in
     let d = q .before .before .before in
-    (number-below _ _ (d .before .if1 .left), query-is _ _ _ (d .digits .ensures) (q .write-query .ensures))
+    let a = d .before .before .before .args in
+    (number-below (a .k) (a .number) (omega (arith, d .before .if1 .left)), query-is _ _ _ (d .digits .ensures) (q .write-query .ensures))
 
 pub write-sequence-spec : {M : Type 1} → statement M
 write-sequence-spec = tie.close (tie.spec returns cast-digits digits-requires write-query-requires same-length returns-2)
