@@ -6,6 +6,7 @@
 // its working: every record is read, and their numbers are added up. A column is pushed to a fresh sequence by one call and by single ones.
 // Two queries are merged by the C interface. FLINT merges at coprime moduli only, from terms in its own form.
 // The length of a binary sequence is found from one period by the C interface, and without that call from the terms of two.
+// All sequences of n terms are tallied by one call of the C interface, and without it by a number and a record for each of them.
 #include <NTL/lzz_pX.h>
 #include <diverthrone.h>
 #include <flint/flint.h>
@@ -447,6 +448,65 @@ static void periods() {
     }
 }
 
+// ---- the census
+
+static uint8_t tally_cells[DIVERTHRONE_TALLY_BYTES];
+static uint32_t counts[13];
+
+// The tally by single calls: for each number the query and its record.
+static void tally_by_records(uint32_t m, uint32_t n, uint32_t all) {
+    static uint8_t query[260];
+    memset(counts, 0, sizeof counts);
+    for (uint32_t x = 0; x < all; x++) {
+        diverthrone_enumerate(m, n, x, query, sizeof query);
+        diverthrone_synthesize(query, sizeof query, record, RECORD);
+        counts[diverthrone_cell(record + DIVERTHRONE_LENGTH_PLACE, 0)]++;
+    }
+}
+
+// The tally by the C versions, whose registers need no query: the next sequence is the last one with 1 added, digit by digit.
+static void tally_in_c(uint32_t m, uint32_t n, uint32_t all, decltype(plain_register) *reg_of) {
+    static uint32_t digits[128];
+    memset(digits, 0, sizeof digits), memset(counts, 0, sizeof counts);
+    for (uint32_t x = 0; x < all; x++) {
+        reg_of(m, digits, (int)n, a, b, lens);
+        counts[lens[n]]++;
+        for (uint32_t i = n; i-- > 0 && ++digits[i] == m;) digits[i] = 0;
+    }
+}
+
+static bool tallied(uint32_t m, uint32_t n) {
+    if (diverthrone_tally(m, n, tally_cells, sizeof tally_cells)) return false;
+    for (size_t l = 0; l < 13; l++)
+        if (diverthrone_cell(tally_cells, l) != counts[l]) return false;
+    return true;
+}
+
+static void census_of(uint32_t m, uint32_t n) {
+    uint32_t all = 1;
+    for (uint32_t i = 0; i < n; i++) all *= m;
+    bool same = true;
+    tally_by_records(m, n, all), same &= tallied(m, n);
+    tally_in_c(m, n, all, plain_register), same &= tallied(m, n);
+    tally_in_c(m, n, all, tricks_register), same &= tallied(m, n);
+    if (!same) printf("tally of %u, %u: DIFFER\n", m, n), exit(1);
+    static uint8_t query[260];
+    auto t = measure({{"tally", [=](int) { diverthrone_tally(m, n, tally_cells, sizeof tally_cells); }},
+                      {"records", [=](int) { tally_by_records(m, n, all); }},
+                      {"plain", [=](int) { tally_in_c(m, n, all, plain_register); }},
+                      {"tricks", [=](int) { tally_in_c(m, n, all, tricks_register); }},
+                      {"numbers", [=](int) { for (uint32_t x = 0; x < all; x++) diverthrone_enumerate(m, n, x, query, sizeof query); }}},
+                     21, 1);
+    printf("  %4u^%-2u  %4u  %.2f  %.2f  %.2f  %.2f  %.2f  %.0f\n", m, n, all, t[0] / t[1], t[0] / t[2], t[0] / t[3], t[0] / 1e3, t[0] / all,
+           1e3 * t[4] / all);
+}
+
+static void census() {
+    printf("tally of so many sequences: / a number and a record for each, / C with %%, / C without %%, ms, us a sequence; a number's query, ns\n");
+    census_of(2, 12), census_of(3, 7), census_of(4, 6), census_of(5, 5), census_of(8, 4), census_of(16, 3), census_of(61, 2), census_of(64, 2);
+    census_of(2048, 1), census_of(2310, 1), census_of(4095, 1);
+}
+
 int main() {
     primes();
     composites();
@@ -457,4 +517,5 @@ int main() {
     columns();
     merges();
     periods();
+    census();
 }

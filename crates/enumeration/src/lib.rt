@@ -76,7 +76,7 @@ fn digits(m: u32, n: usize, number: u32) -> [u32; TERMS]
     let mut j: usize = 0;
     while j < n {
         let i = n - 1 - j;
-        terms[i] = left % m;
+        terms[i] = residue::remainder(left as u64, m);
         left = left / m;
         j += 1;
     }

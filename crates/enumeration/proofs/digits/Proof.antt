@@ -1,7 +1,7 @@
 -- `enumeration::digits` meets its contract: the digits are read off from the last place to the first.
 -- Assumes nothing.
-use mathlib.Core.Path.{refl}
 use Prim.Native.Nat.{_-_, _≤_}
+use native.Mathlib.Nat.{div-le-self}
 use native.Mathlib.Omega.{arith}
 use borrow.Author.Needs.{needs}
 use Rattle.enumeration.proofs.Loops.{Parted, parted-none, parted-more, parted-all}
@@ -9,13 +9,13 @@ use Rattle.enumeration.proofs.digits.Statement.{statement}
 use Rattle.enumeration.proofs.digits.Tie as tie
 
 abbrev Inv-loop : tie.InvT-loop
-Inv-loop m n number terms₀ left₀ j₀ terms left j = (j ≤ n) × Parted m n number (n - j) left terms
+Inv-loop m n number terms₀ left₀ j₀ terms left j = (j ≤ n) × (left ≤ number) × Parted m n number (n - j) left terms
 
 abbrev μ-loop : tie.MeasureT-loop
 μ-loop m n number terms₀ left₀ j₀ terms left j = n - j
 
 loop-holds : tie.Need-loop-holds Inv-loop μ-loop
-loop-holds c = (omega arith, parted-none _ (omega arith))
+loop-holds c = (omega arith, omega arith, parted-none _ (omega arith))
 
 sub-i : tie.Need-sub-i Inv-loop μ-loop
 sub-i c = search needs
@@ -23,8 +23,11 @@ sub-i c = search needs
 sub-i-2 : tie.Need-sub-i-2 Inv-loop μ-loop
 sub-i-2 c = search needs
 
-rem-terms : tie.Need-rem-terms Inv-loop μ-loop
-rem-terms c = search needs
+cast-remainder : tie.Need-cast-remainder Inv-loop μ-loop
+cast-remainder c = omega (arith, c .before .loop .inv .1)
+
+remainder-requires : tie.Need-remainder-requires Inv-loop μ-loop
+remainder-requires c κs = search needs
 
 mul-terms : tie.Need-mul-terms Inv-loop μ-loop
 mul-terms c = search needs
@@ -43,12 +46,13 @@ loop-less c = search needs
 
 loop-again : tie.Need-loop-again Inv-loop μ-loop
 loop-again c =
-    let l = c .before .loop in
-    let z = c .before .before in
-    (omega arith, parted-more _ _ _ (z .pre .1) (omega (arith, c .loop-test .taken)) (omega arith) (l .inv .1) refl)
+    let t = c .before in
+    let l = t .before .loop in
+    let z = t .before .before in
+    (omega arith, omega (arith, div-le-self (l .left) (z .args .m)), parted-more _ _ _ (z .pre .1) (omega (arith, t .loop-test .taken)) (omega arith) (l .inv .2) (c .remainder .ensures))
 
 returns : tie.Need-returns Inv-loop μ-loop
-returns c = parted-all (c .before .before .pre .1) (omega (arith, c .loop-test .left)) (c .before .loop .inv .1)
+returns c = parted-all (c .before .before .pre .1) (omega (arith, c .loop-test .left)) (c .before .loop .inv .2)
 
 pub digits-spec : {M : Type 1} → statement M
 digits-spec =
@@ -59,7 +63,8 @@ digits-spec =
     loop-holds
     sub-i
     sub-i-2
-    rem-terms
+    cast-remainder
+    remainder-requires
     mul-terms
     array-write-terms
     div-left
