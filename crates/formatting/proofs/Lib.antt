@@ -5,3 +5,5 @@ pub mod Degree
 pub mod Wording
 pub mod Records
 pub mod Reading
+pub mod Tallies
+pub mod Pairs

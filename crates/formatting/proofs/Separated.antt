@@ -31,12 +31,13 @@ separated-more mark x xs n =
     append-assoc (numeral x) (eachAfter mark xs) (eachAfter mark (n ∷ []))
     ∙ ap (λ (zs : List ℕ). numeral x ++ zs) (sym (after-append mark xs (n ∷ [])))
 
+pub separated-two : (mark : List ℕ) (m n : ℕ) → numeral m ++ eachAfter mark (n ∷ []) ≡ separated mark (m ∷ n ∷ [])
+separated-two mark m n = ap (λ (zs : List ℕ). zs ++ eachAfter mark (n ∷ [])) (separated-one mark m) ∙ separated-more mark m [] n
+
 pub separated-four : (mark : List ℕ) (m n d l : ℕ)
-    → numeral m ++ eachAfter mark (n ∷ []) ++ eachAfter mark (d ∷ []) ++ eachAfter mark (l ∷ []) ≡ separated mark (m ∷ n ∷ d ∷ l ∷ [])
+    → separated mark (m ∷ n ∷ []) ++ eachAfter mark (d ∷ []) ++ eachAfter mark (l ∷ []) ≡ separated mark (m ∷ n ∷ d ∷ l ∷ [])
 separated-four mark m n d l =
-    ap (λ (zs : List ℕ). zs ++ eachAfter mark (n ∷ []) ++ eachAfter mark (d ∷ []) ++ eachAfter mark (l ∷ [])) (separated-one mark m)
-    ∙ ap (λ (zs : List ℕ). zs ++ eachAfter mark (d ∷ []) ++ eachAfter mark (l ∷ [])) (separated-more mark m [] n)
-    ∙ ap (λ (zs : List ℕ). zs ++ eachAfter mark (l ∷ [])) (separated-more mark m (n ∷ []) d)
+    ap (λ (zs : List ℕ). zs ++ eachAfter mark (l ∷ [])) (separated-more mark m (n ∷ []) d)
     ∙ separated-more mark m (n ∷ d ∷ []) l
 
 -- The loop that puts f 0, f 1, .., f (d - 1), each behind the mark: i of them are there.

@@ -1,8 +1,10 @@
-// The listing's lines as bytes in a lent buffer, and the line of a working that says whether a register is the only one.
+// The listing's lines as bytes in a lent buffer, and the line of a working that says whether a register is the only one; the census's lines,
+// and the reading of a typed line that asks for one.
 use catalogue::A_PLACE;
 use catalogue::B_PLACE;
 use catalogue::LENGTH_CELL;
 use catalogue::RECORD_BYTES;
+use enumeration::TALLY_BYTES;
 use sequence::Outcome;
 use sequence::Place;
 use sequence::QUERY_BYTES;
@@ -12,22 +14,48 @@ use sequence::Sequence;
 use sequence::Uniqueness;
 use steps::CELLS;
 ghost use mathlib.Core.Path.{_≡_};
+ghost use mathlib.Core.Bool.{true};
 ghost use mathlib.Core.List.{[], _∷_};
-ghost use Prim.Native.Nat.{suc, _+_, _*_, _≤_, _<_};
+ghost use Prim.Native.Nat.{suc, _+_, _*_, _-_, _≤_, _<_};
 ghost use lib.ListN.{length};
 ghost use Rattle.io.specs.Counts.{Counts};
-ghost use Rattle.lists.specs.Table.{at, tabulate};
+ghost use Rattle.lists.specs.Table.{tabulate};
 ghost use Rattle.lists.specs.Text.{bytes};
+ghost use Rattle.cells.specs.Cell.{cellAt};
 ghost use Rattle.recurrence.specs.Polynomial.{degree};
-ghost use Rattle.sequence.specs.Limits.{maxCells, aBytes};
+ghost use Rattle.sequence.specs.Limits.{aBytes};
 ghost use Rattle.sequence.specs.Answers.{placed};
+ghost use Rattle.lines.specs.Form.{isDigit};
+ghost use Rattle.enumeration.specs.Rules.{lengths, tallyBytes};
 ghost use Rattle.candidate.specs.Rules.{aCells};
 ghost use Rattle.catalogue.specs.Rules.{recordBytes};
 ghost use Rattle.formatting.specs.Text.{numeral, eachAfter, separated, Put};
 ghost use Rattle.formatting.specs.Listing.{lineBytes, header, registerLine, recordLine, placeText, refusalText, refusalLine, queryLine, reportedLine, uniquenessText, uniquenessLine, typedLine};
+ghost use Rattle.formatting.specs.Census.{numberLimit, censusHeader, tallyLine, censusLine, numberOf, blankIn, pairOf, pairIn, noPairLine, pairLine, isPair};
 
 // Room for the longest line: four numbers and the coefficients, each with at most 20 digits and a byte beside them.
 pub const LINE_BYTES: usize = 21 * (4 + CELLS);
+
+// The numbers of a typed line of the census are below it.
+const NUMBER_LIMIT: u64 = 4294967296;
+
+// A number below that limit, or none.
+enum Number {
+    Value(u32),
+    NoNumber,
+}
+
+// What a typed line of the census says: a modulus and a count, or neither.
+pub enum Pair {
+    Numbers(u32, u32),
+    NoPair,
+}
+
+// Where the line ends that answers a typed one, and whether the census goes on.
+pub struct Answered {
+    pub end: usize,
+    pub going: bool,
+}
 
 // A text at place k; gives the place behind it.
 fn put(s: &[u8], out: &mut [u8], k: usize) -> usize
@@ -77,37 +105,42 @@ fn order(a: &[u8]) -> u32
     0
 }
 
-// Coefficient a_i.
-fn coefficient(a: &[u8], i: usize) -> u64
-    requires { ⌜ (length (now a) ≡ aBytes) × (i < maxCells) ⌝ }
-    ensures { λ r. ⌜ r ≡ at (aCells (now (a .entry))) i ⌝ }
-{
-    cells::cell(a, i) as u64
-}
-
-// a_1 .. a_d, each behind a comma.
-fn put_rest(a: &[u8], d: u32, out: &mut [u8], k: usize) -> usize
-    requires { ⌜ (length (now a) ≡ aBytes) × (d < maxCells) × (k + 21 * d ≤ length (now out)) ⌝ }
-    ensures { λ r. ⌜ Put (now (out .entry)) k (eachAfter (bytes ",") (tabulate d (λ i. at (aCells (now (a .entry))) (suc i)))) (now (out .exit)) r ⌝ }
+// Cells 1 to d, each behind a comma.
+fn put_rest(s: &[u8], d: u32, out: &mut [u8], k: usize) -> usize
+    requires { ⌜ (2 * d + 1 < length (now s)) × (k + 21 * d ≤ length (now out)) ⌝ }
+    ensures { λ r. ⌜ Put (now (out .entry)) k (eachAfter (bytes ",") (tabulate d (λ i. cellAt (now (s .entry)) (suc i)))) (now (out .exit)) r ⌝ }
     ensures { λ r. ⌜ r ≤ k + 21 * d ⌝ }
 {
     let mut end = k;
     let mut i: usize = 0;
     while i < d as usize {
         i += 1;
-        end = put_behind(b',', coefficient(a, i), out, end);
+        end = put_behind(b',', cells::cell(s, i) as u64, out, end);
     }
     end
 }
 
-// a_0 .. a_d with commas between them.
-fn put_coefficients(a: &[u8], d: u32, out: &mut [u8], k: usize) -> usize
-    requires { ⌜ (length (now a) ≡ aBytes) × (d < maxCells) × (k + 20 + 21 * d ≤ length (now out)) ⌝ }
-    ensures { λ r. ⌜ Put (now (out .entry)) k (separated (bytes ",") (tabulate (suc d) (at (aCells (now (a .entry)))))) (now (out .exit)) r ⌝ }
-    ensures { λ r. ⌜ r ≤ k + 20 + 21 * d ⌝ }
+// The first cells with commas between them.
+fn put_cells(s: &[u8], count: u32, out: &mut [u8], k: usize) -> usize
+    requires { ⌜ (2 * count ≤ length (now s)) × (k + 20 * count + (count - 1) ≤ length (now out)) ⌝ }
+    ensures { λ r. ⌜ Put (now (out .entry)) k (separated (bytes ",") (tabulate count (cellAt (now (s .entry))))) (now (out .exit)) r ⌝ }
+    ensures { λ r. ⌜ r ≤ k + 20 * count + (count - 1) ⌝ }
 {
-    let rest = put_number(coefficient(a, 0), out, k);
-    put_rest(a, d, out, rest)
+    if count == 0 {
+        return k;
+    }
+    let rest = put_number(cells::cell(s, 0) as u64, out, k);
+    put_rest(s, count - 1, out, rest)
+}
+
+// Modulus and count with a blank between them.
+fn put_pair(modulus: u32, count: u32, out: &mut [u8]) -> usize
+    requires { ⌜ 41 ≤ length (now out) ⌝ }
+    ensures { λ r. ⌜ Put (now (out .entry)) 0 (separated (bytes " ") (modulus ∷ count ∷ [])) (now (out .exit)) r ⌝ }
+    ensures { λ r. ⌜ r ≤ 41 ⌝ }
+{
+    let first = put_number(modulus as u64, out, 0);
+    put_behind(b' ', count as u64, out, first)
 }
 
 // Modulus, count, order and start with blanks between them.
@@ -116,9 +149,8 @@ fn put_numbers(modulus: u32, count: u32, order: u32, start: u32, out: &mut [u8])
     ensures { λ r. ⌜ Put (now (out .entry)) 0 (separated (bytes " ") (modulus ∷ count ∷ order ∷ start ∷ [])) (now (out .exit)) r ⌝ }
     ensures { λ r. ⌜ r ≤ 83 ⌝ }
 {
-    let first = put_number(modulus as u64, out, 0);
-    let second = put_behind(b' ', count as u64, out, first);
-    let third = put_behind(b' ', order as u64, out, second);
+    let pair = put_pair(modulus, count, out);
+    let third = put_behind(b' ', order as u64, out, pair);
     put_behind(b' ', start as u64, out, third)
 }
 
@@ -141,7 +173,7 @@ fn register_line(modulus: u32, count: u32, l: u32, a: &[u8], out: &mut [u8]) -> 
     let d = order(a);
     let numbers = put_numbers(modulus, count, d, l, out);
     let place = put(b" ", out, numbers);
-    let end = put_coefficients(a, d, out, place);
+    let end = put_cells(a, d + 1, out, place);
     put(b"\n", out, end)
 }
 
@@ -262,5 +294,142 @@ pub fn typed_line(line: &[u8], out: &mut [u8]) -> usize
     match o {
         Outcome::Refused(r) => refusal_line(r, out),
         Outcome::Done => query_line(&query, out),
+    }
+}
+
+// The census's first line.
+pub fn census_header(out: &mut [u8]) -> usize
+    requires { ⌜ length (now out) ≡ lineBytes ⌝ }
+    ensures { λ r. ⌜ Counts r (now (out .exit)) ⌝ }
+    ensures { λ r. ⌜ Put (now (out .entry)) 0 censusHeader (now (out .exit)) r ⌝ }
+{
+    put(b"modulus count tally\n", out, 0)
+}
+
+// The census's line of a tally: modulus, count, and the cells of the lengths that there are, 0 to n.
+fn tally_line(m: u32, n: u32, cells: &[u8], out: &mut [u8]) -> usize
+    requires { ⌜ (n < lengths) × (length (now cells) ≡ tallyBytes) × (length (now out) ≡ lineBytes) ⌝ }
+    ensures { λ r. ⌜ Counts r (now (out .exit)) ⌝ }
+    ensures { λ r. ⌜ Put (now (out .entry)) 0 (tallyLine m n (now (cells .entry))) (now (out .exit)) r ⌝ }
+{
+    let pair = put_pair(m, n, out);
+    let place = put(b" ", out, pair);
+    let end = put_cells(cells, n + 1, out, place);
+    put(b"\n", out, end)
+}
+
+// The census's line of a modulus and a count, or its refusal.
+// Rejected: all thirteen cells of a tally; the cell of the length n left out; modulus and count exchanged.
+pub fn census_line(m: u32, n: u32, out: &mut [u8]) -> usize
+    requires { ⌜ length (now out) ≡ lineBytes ⌝ }
+    ensures { λ r. ⌜ Counts r (now (out .exit)) ⌝ }
+    ensures { λ r. ⌜ Put (now (out .entry)) 0 (censusLine m n) (now (out .exit)) r ⌝ }
+{
+    let mut cells = [0u8; TALLY_BYTES];
+    let o = enumeration::tally(m, n, &mut cells);
+    match o {
+        Outcome::Refused(r) => refusal_line(r, out),
+        Outcome::Done => tally_line(m, n, &cells, out),
+    }
+}
+
+// A value with one more digit.
+fn grown(value: u64, b: u8) -> u64
+    requires { ⌜ (value < numberLimit) × (isDigit b ≡ true) ⌝ }
+    ensures { λ r. ⌜ r ≡ 10 * value + (b - 48) ⌝ }
+{
+    10 * value + (b - b'0') as u64
+}
+
+// One digit or more. Reading stops at the first with which the value is not below 2^32, so that it fits however many follow.
+fn read_number(s: &[u8]) -> Number
+    ensures { λ r. ⌜ r ≡ numberOf (now (s .entry)) ⌝ }
+{
+    if s.len() == 0 {
+        return Number::NoNumber;
+    }
+    let mut value: u64 = 0;
+    let mut place: usize = 0;
+    while place < s.len() {
+        let b = s[place];
+        if !lines::is_digit(b) {
+            return Number::NoNumber;
+        }
+        value = grown(value, b);
+        if NUMBER_LIMIT <= value {
+            return Number::NoNumber;
+        }
+        place += 1;
+    }
+    Number::Value(value as u32)
+}
+
+// The place of the first blank; the length where there is none.
+fn blank_in(line: &[u8]) -> usize
+    ensures { λ r. ⌜ r ≡ blankIn (now (line .entry)) ⌝ }
+{
+    let mut place: usize = 0;
+    while place < line.len() {
+        if line[place] == b' ' {
+            return place;
+        }
+        place += 1;
+    }
+    place
+}
+
+// Both numbers, or no pair.
+fn pair_of(first: Number, second: Number) -> Pair
+    ensures { λ r. ⌜ r ≡ pairOf first second ⌝ }
+{
+    match first {
+        Number::NoNumber => Pair::NoPair,
+        Number::Value(m) => match second {
+            Number::NoNumber => Pair::NoPair,
+            Number::Value(n) => Pair::Numbers(m, n),
+        },
+    }
+}
+
+// The number before the first blank and the number behind it.
+fn read_pair(line: &[u8]) -> Pair
+    ensures { λ r. ⌜ r ≡ pairIn (now (line .entry)) ⌝ }
+{
+    let k = blank_in(line);
+    if line.len() <= k {
+        return Pair::NoPair;
+    }
+    let first = read_number(&line[..k]);
+    let second = read_number(&line[k + 1..]);
+    pair_of(first, second)
+}
+
+// The census's last line, where a typed line is not a modulus and a count.
+pub fn no_pair_line(out: &mut [u8]) -> usize
+    requires { ⌜ length (now out) ≡ lineBytes ⌝ }
+    ensures { λ r. ⌜ Counts r (now (out .exit)) ⌝ }
+    ensures { λ r. ⌜ Put (now (out .entry)) 0 noPairLine (now (out .exit)) r ⌝ }
+{
+    put(b"not a modulus and a count\n", out, 0)
+}
+
+// The census's line that answers a typed line, and whether the census goes on.
+// Rejected: going on after a line that is not a modulus and a count; ending at a pair that is refused; two blanks taken for one.
+pub fn pair_line(line: &[u8], out: &mut [u8]) -> Answered
+    requires { ⌜ length (now out) ≡ lineBytes ⌝ }
+    ensures { λ r. ⌜ Counts (r .end) (now (out .exit)) ⌝ }
+    ensures { λ r. ⌜ Put (now (out .entry)) 0 (pairLine (now (line .entry))) (now (out .exit)) (r .end) ⌝ }
+    ensures { λ r. ⌜ r .going ≡ isPair (pairIn (now (line .entry))) ⌝ }
+{
+    let p = read_pair(line);
+    match p {
+        Pair::Numbers(m, n) => {
+            let end = census_line(m, n, out);
+            Answered { end, going: true }
+        }
+        Pair::NoPair => {
+            let end = no_pair_line(out);
+            Answered { end, going: false }
+        }
     }
 }

@@ -8,6 +8,7 @@ use lib.ListN.{length, length-replicate}
 use Rattle.lists.specs.Sum.{sumTo}
 use Rattle.lists.specs.Table.{tabulate, largest}
 use Rattle.lists.specs.Search.{first, all, every}
+use Rattle.lists.specs.Text.{bytes}
 use Rattle.cells.specs.Cell.{cellAt, bytesOf}
 use Rattle.residue.specs.Congruence.{neg}
 use Rattle.residue.specs.Units.{inverse}
@@ -22,6 +23,10 @@ use Rattle.counting.specs.Lengths.{withLength}
 use Rattle.sequence.specs.Limits.{queryBytes}
 use Rattle.sequence.specs.Answers.{firstOf}
 use Rattle.enumeration.specs.Rules.{tallyBytes, countedOf, enumerateOf, enumerateAnswer, queryNumbered, tallyOf, tallyAnswer, tallyCells}
+use Rattle.lines.specs.Form.{decimal}
+use Rattle.formatting.specs.Text.{numeral, eachAfter, separated}
+use Rattle.formatting.specs.Listing.{refusalText}
+use Rattle.formatting.specs.Census.{tallyLine, censusLine, numberOf, blankIn, pairIn, pairLine}
 use Rattle.guarantees.specs.Census.{Tally, Countable}
 use Rattle.guarantees.specs.CensusRows.{sevens, cellsTo, CensusRows}
 use Rattle.guarantees.proofs.Census.{tallied}
@@ -75,7 +80,7 @@ one-term-row =
     )
 
 pub census-rows : CensusRows
-unfolding tabulate largest first all every sumTo bytesOf neg inverse valuation cofactor leastDivisor leastPower powersUpTo primePowers conv plus times up top degree len discrepancy caseOf partner multiplier change remembered older noOlder next history rowAt part parts complexity listAt countBelow withLength firstOf countedOf enumerateOf enumerateAnswer queryNumbered tallyOf tallyAnswer tallyCells
+unfolding tabulate largest first all every sumTo bytesOf neg inverse valuation cofactor leastDivisor leastPower powersUpTo primePowers conv plus times up top degree len discrepancy caseOf partner multiplier change remembered older noOlder next history rowAt part parts complexity listAt countBelow withLength firstOf countedOf enumerateOf enumerateAnswer queryNumbered tallyOf tallyAnswer tallyCells bytes numeral eachAfter separated refusalText tallyLine censusLine decimal numberOf blankIn pairIn pairLine
 census-rows =
     record {
       two-three = refl;
@@ -100,6 +105,25 @@ census-rows =
       empty = refl;
       last-done = refl;
       empty-done = refl;
+      head = refl;
+      printed = refl;
+      printed-four = refl;
+      printed-none = refl;
+      printed-1 = refl;
+      printed-2 = refl;
+      printed-33 = refl;
+      refused-goes-on = refl;
+      other = refl;
+      other-ends = refl;
+      empty-line = refl;
+      one-number = refl;
+      two-blanks = refl;
+      blank-first = refl;
+      blank-last = refl;
+      no-count = refl;
+      minus = refl;
+      too-large = refl;
+      largest = refl;
       refused-query = refl;
       refused-cells = refl;
       number-code = refl;

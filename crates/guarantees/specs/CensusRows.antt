@@ -1,15 +1,19 @@
--- Numbers and tallies with the answers to them: those of 02, small ones by the steps, large ones, each refusal, and their order.
+-- Numbers and tallies with the answers to them: those of 02, small ones by the steps, large ones, lines of the census, each refusal, and their order.
 -- Assumes nothing.
 use mathlib.Core.Path.{_≡_}
+use mathlib.Core.Bool.{true, false}
 use mathlib.Core.List.{List, [], _∷_, _++_}
 use Prim.Native.Nat.{ℕ, _-_, _^_}
 use lib.ListN.{length, replicate}
+use Rattle.lists.specs.Text.{bytes}
 use Rattle.cells.specs.Cell.{cellAt, bytesOf}
 use Rattle.sequence.specs.Limits.{queryBytes}
 use Rattle.sequence.specs.Answers.{Answer, granted, refused}
 use Rattle.sequence.specs.Rules.{queryOf}
 use Rattle.enumeration.specs.Rules.{lengths, tallyBytes, enumerateAnswer, tallyAnswer}
 use Rattle.diverthrone.specs.Codes.{codeOf}
+use Rattle.formatting.specs.declared.Pair.the-variants.{Numbers, NoPair}
+use Rattle.formatting.specs.Census.{censusHeader, pairIn, pairLine, isPair}
 use Rattle.guarantees.specs.Census.{queryAfter, cellsAfter}
 
 -- lent buffers of sevens, of the right lengths and of others
@@ -60,6 +64,27 @@ pub record CensusRows : Type 0 where
   pub empty : queryTo 9 0 0 ≡ queryOf 9 []
   pub last-done : numberTo 2 12 4095 ≡ granted []
   pub empty-done : numberTo 4095 0 0 ≡ granted []
+  -- lines of the census, as they are typed and printed: numbers with leading zeros are printed without, a refusal does not end it
+  pub head : censusHeader ≡ bytes "modulus count tally\n"
+  pub printed : pairLine (bytes "2 3") ≡ bytes "2 3 1,2,4,1\n"
+  pub printed-four : pairLine (bytes "004 02") ≡ bytes "4 2 1,10,5\n"
+  pub printed-none : pairLine (bytes "9 0") ≡ bytes "9 0 1\n"
+  pub printed-1 : pairLine (bytes "1 3") ≡ bytes "refused 1\n"
+  pub printed-2 : pairLine (bytes "2 4294967295") ≡ bytes "refused 2\n"
+  pub printed-33 : pairLine (bytes "2 13") ≡ bytes "refused 33\n"
+  pub refused-goes-on : isPair (pairIn (bytes "2 13")) ≡ true
+  -- and lines that end it
+  pub other : pairLine (bytes "2,3") ≡ bytes "not a modulus and a count\n"
+  pub other-ends : isPair (pairIn (bytes "2,3")) ≡ false
+  pub empty-line : pairIn (bytes "") ≡ NoPair
+  pub one-number : pairIn (bytes "23") ≡ NoPair
+  pub two-blanks : pairIn (bytes "2  3") ≡ NoPair
+  pub blank-first : pairIn (bytes " 2 3") ≡ NoPair
+  pub blank-last : pairIn (bytes "2 3 ") ≡ NoPair
+  pub no-count : pairIn (bytes "2 ") ≡ NoPair
+  pub minus : pairIn (bytes "2 -3") ≡ NoPair
+  pub too-large : pairIn (bytes "2 4294967296") ≡ NoPair
+  pub largest : pairIn (bytes "4294967295 0") ≡ Numbers 4294967295 0
   -- a refusal leaves the buffers as lent
   pub refused-query : queryTo 2 3 8 ≡ sevens queryBytes
   pub refused-cells : cellsTo 2 13 ≡ sevens tallyBytes

@@ -81,7 +81,8 @@ fn class_of(b: u8) -> Class
     }
 }
 
-fn is_digit(b: u8) -> bool
+// Whether a byte is a digit.
+pub fn is_digit(b: u8) -> bool
     ensures { λ r. ⌜ r ≡ isDigit b ⌝ }
 {
     match b {

@@ -1,5 +1,5 @@
-// What programs write to standard output, said once for all of them: texts and numbers, refusals, the listing's lines, and whether a
-// register is the only one.
+// What programs write to standard output, said once for all of them: texts and numbers, refusals, the listing's lines, whether a register
+// is the only one, and the census's lines.
 use formatting::LINE_BYTES;
 use libc::STDOUT_FILENO;
 use sequence::Refusal;
@@ -9,6 +9,7 @@ use sequence::Uniqueness;
 ghost use mathlib.Core.Path.{_≡_};
 ghost use lib.ListN.{length};
 ghost use Rattle.sequence.specs.Limits.{aBytes};
+ghost use Rattle.formatting.specs.Census.{pairIn, isPair};
 
 pub fn text(s: &[u8]) {
     io::write_all(STDOUT_FILENO, s);
@@ -78,5 +79,30 @@ pub fn query_line(query: &[u8]) {
 pub fn typed_line(line: &[u8]) {
     let mut out = [0u8; LINE_BYTES];
     let n = formatting::typed_line(line, &mut out);
+    text(&out[..n]);
+}
+
+// The census's first line.
+pub fn census_header() {
+    let mut out = [0u8; LINE_BYTES];
+    let n = formatting::census_header(&mut out);
+    text(&out[..n]);
+}
+
+// The census's line that answers a typed line; says whether the census goes on.
+pub fn pair_line(line: &[u8]) -> bool
+    ensures { λ r. ⌜ r ≡ isPair (pairIn (now (line .entry))) ⌝ }
+{
+    let mut out = [0u8; LINE_BYTES];
+    let a = formatting::pair_line(line, &mut out);
+    let n = a.end;
+    text(&out[..n]);
+    a.going
+}
+
+// The census's last line, where a typed line is not a modulus and a count.
+pub fn no_pair_line() {
+    let mut out = [0u8; LINE_BYTES];
+    let n = formatting::no_pair_line(&mut out);
     text(&out[..n]);
 }

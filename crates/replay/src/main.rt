@@ -29,6 +29,12 @@ struct Call {
     l: u16,
 }
 
+// The payload of an enumeration: how many terms, and the sequence's number.
+struct Numbered {
+    count: u32,
+    number: u64,
+}
+
 // The sequence held after a call, and whether the script goes on.
 struct Turn {
     sequence: Sequence,
@@ -52,6 +58,23 @@ fn parse(h: &[u8; 16]) -> Call {
         y: pair(h[10], h[11]),
         z: pair(h[12], h[13]),
         l: pair(h[14], h[15]),
+    }
+}
+
+fn parse_count(p: &[u8; 4]) -> u32 {
+    number(pair(p[0], p[1]), pair(p[2], p[3]))
+}
+
+fn long(low: u32, high: u32) -> u64 {
+    (low as u64) + 4294967296 * (high as u64)
+}
+
+fn parse_numbered(p: &[u8; 12]) -> Numbered {
+    let low = number(pair(p[4], p[5]), pair(p[6], p[7]));
+    let high = number(pair(p[8], p[9]), pair(p[10], p[11]));
+    Numbered {
+        count: number(pair(p[0], p[1]), pair(p[2], p[3])),
+        number: long(low, high),
     }
 }
 
@@ -466,6 +489,46 @@ fn period_length(c: Call) -> bool {
     period_length_in(&mut cells[0..x])
 }
 
+// The payload of an enumeration and of a tally is of one size, whatever the buffer's is.
+fn enumerate_in(modulus: u32, query: &mut [u8]) -> bool {
+    let mut payload = [0u8; 12];
+    if is_cut(&mut payload) {
+        return false;
+    }
+    let n = parse_numbered(&payload);
+    let o = enumeration::enumerate(modulus, n.count, n.number, query);
+    printing::text(b"enumerate ");
+    outcome(o);
+    end_hash(hash(query));
+    true
+}
+
+fn enumerate(c: Call) -> bool {
+    let fill = c.fill;
+    let x = c.x as usize;
+    let mut query = [fill; 65536];
+    enumerate_in(c.number, &mut query[0..x])
+}
+
+fn tally_in(modulus: u32, cells: &mut [u8]) -> bool {
+    let mut payload = [0u8; 4];
+    if is_cut(&mut payload) {
+        return false;
+    }
+    let o = enumeration::tally(modulus, parse_count(&payload), cells);
+    printing::text(b"tally ");
+    outcome(o);
+    end_hash(hash(cells));
+    true
+}
+
+fn tally(c: Call) -> bool {
+    let fill = c.fill;
+    let x = c.x as usize;
+    let mut cells = [fill; 65536];
+    tally_in(c.number, &mut cells[0..x])
+}
+
 fn forge(s: Sequence, c: Call) -> Turn {
     if c.x as usize != QUERY_BYTES {
         printing::text(b"script bad forge\n");
@@ -504,6 +567,8 @@ fn act(s: Sequence, c: Call) -> Turn {
         11 => push_all(s, c),
         12 => kept(s, merge(c)),
         13 => kept(s, period_length(c)),
+        14 => kept(s, enumerate(c)),
+        15 => kept(s, tally(c)),
         _ => unknown(s, operation),
     }
 }

@@ -3,7 +3,6 @@
 use native.Mathlib.Omega.{arith}
 use borrow.Author.Needs.{needs}
 use Rattle.lists.specs.Text.{bytes}
-use Rattle.candidate.specs.Rules.{aCells}
 use Rattle.formatting.proofs.Degree.{degree-cells}
 use Rattle.formatting.proofs.Putting.{put-size, put-counts, put-more}
 use Rattle.formatting.proofs.Wording.{register-told}
@@ -22,15 +21,19 @@ slice-aggregate-put c = search needs
 put-requires : tie.Need-put-requires
 put-requires c κs = search needs
 
-put-coefficients-requires : tie.Need-put-coefficients-requires
-put-coefficients-requires c κs =
+add-put-cells : tie.Need-add-put-cells
+add-put-cells c =
+    let order = c .before .before .before .before .before .before .before .before .before in
+    omega (arith, order .order .ensures, degree-cells (order .before .before .before .args .a .now))
+
+put-cells-requires : tie.Need-put-cells-requires
+put-cells-requires c κs =
     let blank = c .before .before .before in
     let numbers = blank .before .before .before .before .before in
     let order = numbers .before .before in
     let s = order .before .before .before in
     let few = degree-cells (s .args .a .now) in (
-      s .pre .0,
-      omega (arith, order .order .ensures, few),
+      omega (arith, order .order .ensures, few, s .pre .0),
       omega (
         arith,
         order .order .ensures,
@@ -61,8 +64,8 @@ put-requires-2 c κs =
       put-size (numbers .put-numbers .ensures .0),
       blank .put .ensures .ends,
       put-size (blank .put .ensures),
-      last .put-coefficients .ensures .1,
-      put-size (last .put-coefficients .ensures .0),
+      last .put-cells .ensures .1,
+      put-size (last .put-cells .ensures .0),
       s .pre .1,
     )
 
@@ -77,8 +80,8 @@ returns c =
     let numbers = blank .before .before .before .before .before in
     let order = numbers .before .before in
     let v = order .before .before .before .args in
-    let line = put-more (put-more (put-more (numbers .put-numbers .ensures .0) (blank .put .ensures)) (last .put-coefficients .ensures .0)) (c .before .before .put2 .ensures) in
-    let whole = register-told (v .modulus) (v .count) _ _ (v .l) (aCells (v .a .now)) line (order .order .ensures) (order .order .ensures) in
+    let line = put-more (put-more (put-more (numbers .put-numbers .ensures .0) (blank .put .ensures)) (last .put-cells .ensures .0)) (c .before .before .put2 .ensures) in
+    let whole = register-told (v .modulus) (v .count) _ _ (v .l) (v .a .now) line (order .order .ensures) (omega (arith, order .order .ensures)) in
     (put-counts whole, whole)
 
 pub register-line-spec : {M : Type 1} → statement M
@@ -89,7 +92,8 @@ register-line-spec =
     put-numbers-requires
     slice-aggregate-put
     put-requires
-    put-coefficients-requires
+    add-put-cells
+    put-cells-requires
     slice-aggregate-put-2
     put-requires-2
     same-length
