@@ -46,7 +46,7 @@
  *
  * What the caller must grant. Each pointer is valid for its length; with length 0 it may be NULL or any address.
  * A written buffer overlaps no other buffer of the same call. Nothing else: any bytes, any lengths.
- * There is no allocation, no global state and no I/O, so calls from several threads need no lock. A call uses at most 30 KB of stack.
+ * There is no allocation, no global state and no I/O, so calls from several threads need no lock. A call uses at most 31 KB of stack.
  */
 #ifndef DIVERTHRONE_H
 #define DIVERTHRONE_H
