@@ -1,10 +1,7 @@
 -- How many sequences have each length.
 -- Assumes nothing.
-use mathlib.Core.Path.{_≡_}
-use Prim.Native.Nat.{ℕ, zero, suc, _*_, _-_, _^_, _≤_, _<_, min}
+use Prim.Native.Nat.{ℕ, _^_}
 use lib.Dec.{eqb}
-use Rattle.lists.specs.Sum.{sumTo}
-use Rattle.residue.specs.Units.{Prime}
 use Rattle.recurrence.specs.Register.{complexity}
 use Rattle.counting.specs.Numbering.{listAt, countBelow}
 

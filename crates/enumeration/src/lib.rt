@@ -6,7 +6,7 @@ use sequence::Refusal;
 use steps::TERMS;
 ghost use mathlib.Core.Path.{_≡_};
 ghost use mathlib.Core.List.{_∷_};
-ghost use Prim.Native.Nat.{ℕ, suc, _+_, _^_, _≤_, _<_, min};
+ghost use Prim.Native.Nat.{suc, _+_, _^_, _≤_, _<_, min};
 ghost use lib.ListN.{length, set};
 ghost use Rattle.lists.specs.Table.{at, tabulate};
 ghost use Rattle.cells.specs.Cell.{bytesOf};

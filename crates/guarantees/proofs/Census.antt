@@ -2,26 +2,24 @@
 -- Assumes nothing.
 use mathlib.Core.Path.{_≡_, refl, sym, ap, _∙_, subst}
 use mathlib.Core.Logic.{_⊎_, inl, inr}
-use mathlib.Core.Bool.{Bool}
 use mathlib.Core.List.{List}
-use Prim.Native.Nat.{ℕ, zero, suc, _*_, _-_, _^_, _≤_, _<_, min}
+use Prim.Native.Nat.{ℕ, zero, suc, _-_, _^_, _≤_, _<_}
 use native.Mathlib.Decide.{ℕ-discrete}
 use native.Mathlib.Omega.{arith}
 use lib.Dec.{eqb}
 use lib.ListN.{length}
 use Rattle.lists.specs.Choice.{pick}
 use Rattle.lists.specs.Sum.{sumTo}
-use Rattle.lists.specs.Table.{at, tabulate}
+use Rattle.lists.specs.Table.{at}
 use Rattle.lists.proofs.Search.{false-true, lt-or-le}
 use Rattle.lists.proofs.Sum.{sumTo-eq, sumTo-cut}
 use Rattle.cells.specs.Cell.{cellAt}
 use Rattle.cells.proofs.Laws.{cell-of}
-use Rattle.residue.specs.Units.{Prime}
 use Rattle.recurrence.specs.Least.{Least}
 use Rattle.recurrence.specs.Register.{complexity}
 use Rattle.recurrence.proofs.Length.{least-unique}
 use Rattle.recurrence.proofs.Register.{complexity-is-least}
-use Rattle.counting.specs.Numbering.{listAt, ListOf, Before, NumberOf, countBelow}
+use Rattle.counting.specs.Numbering.{listAt, ListOf, Before, countBelow}
 use Rattle.counting.specs.Lengths.{withLength}
 use Rattle.counting.proofs.Counts.{count-le}
 use Rattle.counting.proofs.Numbering.{listAt-length, listAt-below, listAt-of, number, numbered, in-order}
@@ -30,7 +28,7 @@ use Rattle.sequence.specs.declared.Refusal.{Refusal}
 use Rattle.sequence.specs.declared.Refusal.the-variants as R
 use Rattle.sequence.specs.declared.Outcome.{Outcome}
 use Rattle.sequence.specs.declared.Outcome.the-variants.{Done, Refused}
-use Rattle.sequence.specs.Limits.{maxModulus, maxTerms, queryBytes, profileBytes}
+use Rattle.sequence.specs.Limits.{maxTerms, queryBytes, profileBytes}
 use Rattle.sequence.specs.Rules.{queryOf, checkOf}
 use Rattle.sequence.specs.Report.{filled}
 use Rattle.sequence.proofs.Query.{query-modulus, query-count, query-passes}
@@ -40,7 +38,6 @@ use Rattle.enumeration.proofs.Laws as L
 use Rattle.enumeration.proofs.Answers.{enumerate-told, tally-told}
 use Rattle.guarantees.specs.Calls.{Call, taken}
 use Rattle.guarantees.specs.Claims.{termsOf, profileCell, lengthMade}
-use Rattle.guarantees.specs.Lines.{Inside}
 use Rattle.guarantees.specs.Census as S
 use Rattle.guarantees.specs.Census.{queryAfter, cellsAfter, countOf, Countable, Uncounted, NumberReason, TallyReason, EveryReply, Numbered, Tally, Census, TheCensus}
 use Rattle.guarantees.proofs.Lines.{inside-not, outside-is}

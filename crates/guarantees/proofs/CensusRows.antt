@@ -1,10 +1,9 @@
 -- The rows of CensusRows: by computation, and where there are thousands of sequences by what the claim says of the cells.
 -- Assumes nothing.
-use mathlib.Core.Path.{_≡_, refl, sym, ap, _∙_}
-use mathlib.Core.List.{List}
-use Prim.Native.Nat.{ℕ, suc, _+_, _*_, _^_}
+use mathlib.Core.Path.{_≡_, refl}
+use Prim.Native.Nat.{ℕ}
 use native.Mathlib.Omega.{arith}
-use lib.ListN.{length, length-replicate}
+use lib.ListN.{length-replicate}
 use Rattle.lists.specs.Sum.{sumTo}
 use Rattle.lists.specs.Table.{tabulate, largest}
 use Rattle.lists.specs.Search.{first, all, every}
