@@ -123,8 +123,8 @@ uint64_t diverthrone_period_length(const uint8_t *cells, size_t cells_len);
 /* Writes the query of the sequence with this number, among all sequences of so many terms modulo the modulus. They are counted from 0 in
  * dictionary order by first term, so that the last term runs fastest and every sequence has exactly one number: number 0 is all zeros, and
  * modulo 2 with 3 terms number 1 is 0,0,1 and number 6 is 1,1,0. Value 0.
- * There are modulus^count of them, and the power may be at most 4,096: 12 terms modulo 2, 2 terms up to the modulus 64, one term or none with
- * any modulus. No terms are one sequence, number 0. All bits of the three numbers are looked at: 2^32 + 6 is not 6.
+ * There are modulus^count of them, and the power may be at most 4,096: 12 terms modulo 2, 2 terms up to the modulus 64, one term up to 4,095.
+ * No terms are one sequence, number 0. All 64 bits of the number are looked at: 2^32 + 6 is not 6.
  * The query is the one that would be written by hand, zero past the count, and diverthrone_synthesize refuses none of them.
  * Refusals in order: 5 (query), 1, 2, 33. */
 uint64_t diverthrone_enumerate(uint32_t modulus, uint32_t count, uint64_t number, uint8_t *query, size_t query_len);
@@ -141,7 +141,7 @@ static inline unsigned diverthrone_refusal(uint64_t reply) { return (unsigned)(r
 
 static inline uint64_t diverthrone_value(uint64_t reply) { return reply / 256; }
 
-/* The number in a cell of two bytes: of a query, of a register, or at a place in a record. Cells count from 0. */
+/* The number in a cell of two bytes: of a query, of a register, of a tally, or at a place in a record. Cells count from 0. */
 static inline unsigned diverthrone_cell(const uint8_t *bytes, size_t cell) { return bytes[2 * cell] + 256u * bytes[2 * cell + 1]; }
 
 /* NULL with length 0. The archive's functions want an address for every slice. So each of their names is also a macro for a function below,

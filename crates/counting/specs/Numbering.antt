@@ -19,7 +19,7 @@ pub record ListOf (m n : ℕ) (ts : List ℕ) : Type 0 where
   pub size : length ts ≡ n
   pub below : (i : ℕ) → i < n → at ts i < m
 
--- the list comes before the other in the dictionary: at the first place where they differ it has the smaller number
+-- of two lists of the same length the first comes before the other in the dictionary: where they first differ it has the smaller number
 pub record Before (ts us : List ℕ) : Type 0 where
   pub place : ℕ
   pub same : (i : ℕ) → i < place → at ts i ≡ at us i

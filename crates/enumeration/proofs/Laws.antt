@@ -73,8 +73,8 @@ legal m n least most small =
 abbrev pub RefusedBy : ℕ → ℕ → Refusal → Type 0
 RefusedBy m n r = countedOf m n ≡ C.Refused r
 
-abbrev pub Counts : ℕ → ℕ → ℕ → Type 0
-Counts m n k = countedOf m n ≡ C.Sequences k
+abbrev pub CountedAs : ℕ → ℕ → ℕ → Type 0
+CountedAs m n k = countedOf m n ≡ C.Sequences k
 
 module _ (m n : ℕ) where
   pub counted-modulus : outside m ≡ true → RefusedBy m n R.Modulus
@@ -89,7 +89,7 @@ module _ (m n : ℕ) where
   unfolding countedOf
   counted-many a b c h = rw (le-ltb m 2 a, le-ltb maxModulus m b, le-ltb maxTerms n c, lt-ltb maxSequences (m ^ n) h)
 
-  pub counted-fits : {k : ℕ} → Legal m n k → Counts m n k
+  pub counted-fits : {k : ℕ} → Legal m n k → CountedAs m n k
   unfolding countedOf
   counted-fits {k} h =
       rw (le-ltb m 2 (h .least), le-ltb maxModulus m (h .most), le-ltb maxTerms n (h .count), le-ltb maxSequences (m ^ n) (omega (arith, h .power, h .small)))
@@ -106,7 +106,7 @@ module _ (m n : ℕ) where
     modulus : outside m ≡ true → RefusedBy m n R.Modulus → Count
     count : 2 ≤ m → m ≤ maxModulus → maxTerms < n → RefusedBy m n R.Count → Count
     many : 2 ≤ m → m ≤ maxModulus → n ≤ maxTerms → maxSequences < m ^ n → RefusedBy m n R.Census → Count
-    fits : Legal m n (m ^ n) → Counts m n (m ^ n) → Count
+    fits : Legal m n (m ^ n) → CountedAs m n (m ^ n) → Count
 
   pub counting : Count
   counting = go (outside m) refl (lt-or-le maxTerms n) (lt-or-le maxSequences (m ^ n))
@@ -118,7 +118,7 @@ module _ (m n : ℕ) where
       go false e (inr c) (inr h) = let i = inside m e in fits (legal m n (i .0) (i .1) h) (counted-fits (legal m n (i .0) (i .1) h))
 
   -- they are counted only within the limits
-  pub counted : (k : ℕ) → Counts m n k → Legal m n k
+  pub counted : (k : ℕ) → CountedAs m n k → Legal m n k
   counted k e = go counting
     where
       -- how many are said, if any
@@ -137,11 +137,11 @@ module _ (m n : ℕ) where
 
 -- ---- the replies
 
-pub number-large : (k x : ℕ) → k ≤ x → Refused R.Census ≡ numberIn (C.Sequences k) x
-number-large k x h = rw (le-ltb x k h)
+pub number-refused : (k x : ℕ) → k ≤ x → Refused R.Census ≡ numberIn (C.Sequences k) x
+number-refused k x h = rw (le-ltb x k h)
 
-pub number-below : (k x : ℕ) → x < k → Done ≡ numberIn (C.Sequences k) x
-number-below k x h = rw (lt-ltb x k h)
+pub number-taken : (k x : ℕ) → x < k → Done ≡ numberIn (C.Sequences k) x
+number-taken k x h = rw (lt-ltb x k h)
 
 module _ (m n : ℕ) where
   pub enumerate-buffer : (x : ℕ) (query : List ℕ) → (length query ≡ queryBytes → ⊥) → enumerateOf m n x query ≡ Refused R.Buffer
@@ -155,11 +155,11 @@ module _ (m n : ℕ) where
   pub enumerate-refused : (x : ℕ) (query : List ℕ) {r : Refusal} → length query ≡ queryBytes → RefusedBy m n r → enumerateOf m n x query ≡ Refused r
   enumerate-refused x query h e = enumerate-counted x query h e
 
-  pub enumerate-large : (x : ℕ) (query : List ℕ) {k : ℕ} → length query ≡ queryBytes → Counts m n k → k ≤ x → enumerateOf m n x query ≡ Refused R.Census
-  enumerate-large x query {k} h e b = enumerate-counted x query h e ∙ sym (number-large k x b)
+  pub enumerate-large : (x : ℕ) (query : List ℕ) {k : ℕ} → length query ≡ queryBytes → CountedAs m n k → k ≤ x → enumerateOf m n x query ≡ Refused R.Census
+  enumerate-large x query {k} h e b = enumerate-counted x query h e ∙ sym (number-refused k x b)
 
-  pub enumerate-done : (x : ℕ) (query : List ℕ) {k : ℕ} → length query ≡ queryBytes → Counts m n k → x < k → enumerateOf m n x query ≡ Done
-  enumerate-done x query {k} h e b = enumerate-counted x query h e ∙ sym (number-below k x b)
+  pub enumerate-done : (x : ℕ) (query : List ℕ) {k : ℕ} → length query ≡ queryBytes → CountedAs m n k → x < k → enumerateOf m n x query ≡ Done
+  enumerate-done x query {k} h e b = enumerate-counted x query h e ∙ sym (number-taken k x b)
 
   pub tally-buffer : (cells : List ℕ) → (length cells ≡ tallyBytes → ⊥) → tallyOf m n cells ≡ Refused R.Buffer
   unfolding tallyOf
@@ -172,7 +172,7 @@ module _ (m n : ℕ) where
   pub tally-refused : (cells : List ℕ) {r : Refusal} → length cells ≡ tallyBytes → RefusedBy m n r → tallyOf m n cells ≡ Refused r
   tally-refused cells h e = tally-counted cells h e
 
-  pub tally-done : (cells : List ℕ) {k : ℕ} → length cells ≡ tallyBytes → Counts m n k → tallyOf m n cells ≡ Done
+  pub tally-done : (cells : List ℕ) {k : ℕ} → length cells ≡ tallyBytes → CountedAs m n k → tallyOf m n cells ≡ Done
   tally-done cells h e = tally-counted cells h e
 
 -- ---- the sequence with a number

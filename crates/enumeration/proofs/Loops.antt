@@ -73,8 +73,8 @@ module _ {m n x : ℕ} where
   parted-more {k} {left} {terms} i j d few a b p e =
       subst (λ (z : ℕ). Parted m n x z (left / m) (set terms i d)) b (more d few (subst (λ (z : ℕ). Parted m n x z left terms) a p) e)
 
-  pub parted-all : {k left : ℕ} {terms : List ℕ} → n ≤ maxTerms → k ≡ zero → Parted m n x k left terms → terms ≡ tabulate maxTerms (at (listAt m n x))
-  parted-all {k} {left} {terms} few e p = is-tabulate maxTerms (at (listAt m n x)) zero terms (p .size) (λ j b. go j b (lt-or-le j n))
+  pub parted-all : {k left : ℕ} {terms : List ℕ} → k ≡ zero → Parted m n x k left terms → terms ≡ tabulate maxTerms (at (listAt m n x))
+  parted-all {k} {left} {terms} e p = is-tabulate maxTerms (at (listAt m n x)) zero terms (p .size) (λ j b. go j b (lt-or-le j n))
     where
       go : (j : ℕ) → j < maxTerms → (j < n) ⊎ (n ≤ j) → at terms j ≡ at (listAt m n x) j
       go j b (inl h) = p .done j (omega arith) h

@@ -21,11 +21,11 @@ use Rattle.formatting.specs.Census.{tallyLine, talliedLine, censusLine}
 use Rattle.formatting.proofs.Putting.{put-as}
 
 -- the cells that are put are those of the lengths 0 to n
-pub tally-told : {out out′ : List ℕ} {k r : ℕ} (m n size : ℕ) (cells : List ℕ)
+pub cells-told : {out out′ : List ℕ} {k r : ℕ} (m n size : ℕ) (cells : List ℕ)
     → Put out k (separated (bytes " ") (m ∷ n ∷ []) ++ bytes " " ++ separated (bytes ",") (tabulate size (cellAt cells)) ++ bytes "\n") out′ r
     → size ≡ suc n → Put out k (tallyLine m n cells) out′ r
 unfolding tallyLine
-tally-told m n size cells p e =
+cells-told m n size cells p e =
     put-as (ap (λ (x : ℕ). separated (bytes " ") (m ∷ n ∷ []) ++ bytes " " ++ separated (bytes ",") (tabulate x (cellAt cells)) ++ bytes "\n") e) p
 
 -- a tally into a buffer of its length
@@ -34,19 +34,19 @@ module _ (m n : ℕ) (lent : List ℕ) (size : length lent ≡ tallyBytes) where
   unfolding tallyOf
   replied = rw (eq-eqb (length lent) tallyBytes size)
 
-  pub tally-refused : {r : Refusal} → tallyOf m n lent ≡ Refused r → refusalLine r ≡ censusLine m n
+  pub line-refused : {r : Refusal} → tallyOf m n lent ≡ Refused r → refusalLine r ≡ censusLine m n
   unfolding censusLine
-  tally-refused h = sym (ap (λ (o : Outcome). talliedLine o m n) (sym replied ∙ h))
+  line-refused h = sym (ap (λ (o : Outcome). talliedLine o m n) (sym replied ∙ h))
 
-  pub tally-made : (cells : List ℕ) {o : Outcome} → cells ≡ filled o (tallyCells m n) lent → o ≡ tallyOf m n lent → o ≡ Done → tallyLine m n cells ≡ censusLine m n
+  pub line-made : (cells : List ℕ) {o : Outcome} → cells ≡ filled o (tallyCells m n) lent → o ≡ tallyOf m n lent → o ≡ Done → tallyLine m n cells ≡ censusLine m n
   unfolding censusLine
-  tally-made cells {o} e f d =
+  line-made cells {o} e f d =
       ap (tallyLine m n) (e ∙ ap (λ (x : Outcome). filled x (tallyCells m n) lent) d)
       ∙ sym (ap (λ (x : Outcome). talliedLine x m n) (sym replied ∙ sym f ∙ d))
 
   -- where it is not refused, each length has its cell
-  pub tally-few : {o : Outcome} → o ≡ tallyOf m n lent → o ≡ Done → n < lengths
-  tally-few f d = go (counting m n)
+  pub line-few : {o : Outcome} → o ≡ tallyOf m n lent → o ≡ Done → n < lengths
+  line-few f d = go (counting m n)
     where
       done : tallyIn (countedOf m n) ≡ Done
       done = sym replied ∙ sym f ∙ d

@@ -320,7 +320,7 @@ fn tally_line(m: u32, n: u32, cells: &[u8], out: &mut [u8]) -> usize
 
 // The census's line of a modulus and a count, or its refusal.
 // Rejected: all thirteen cells of a tally; the cell of the length n left out; modulus and count exchanged.
-pub fn census_line(m: u32, n: u32, out: &mut [u8]) -> usize
+fn census_line(m: u32, n: u32, out: &mut [u8]) -> usize
     requires { ⌜ length (now out) ≡ lineBytes ⌝ }
     ensures { λ r. ⌜ Counts r (now (out .exit)) ⌝ }
     ensures { λ r. ⌜ Put (now (out .entry)) 0 (censusLine m n) (now (out .exit)) r ⌝ }

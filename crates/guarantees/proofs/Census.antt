@@ -2,6 +2,7 @@
 -- Assumes nothing.
 use mathlib.Core.Path.{_≡_, refl, sym, ap, _∙_, subst}
 use mathlib.Core.Logic.{_⊎_, inl, inr}
+use mathlib.Core.Bool.{false}
 use mathlib.Core.List.{List}
 use Prim.Native.Nat.{ℕ, zero, suc, _-_, _^_, _≤_, _<_}
 use native.Mathlib.Decide.{ℕ-discrete}
@@ -36,10 +37,15 @@ use Rattle.catalogue.specs.Rules.{recordBytes}
 use Rattle.enumeration.specs.Rules.{lengths, tallyBytes, enumerateOf, queryNumbered, tallyOf, tallyCells}
 use Rattle.enumeration.proofs.Laws as L
 use Rattle.enumeration.proofs.Answers.{enumerate-told, tally-told}
+use Rattle.formatting.specs.declared.Pair.{Pair}
+use Rattle.formatting.specs.declared.Pair.the-variants.{Numbers, NoPair}
+use Rattle.formatting.specs.Census.{pairIn, answerOf, noPairLine, pairLine, isPair}
+use Rattle.formatting.proofs.Tallies.{line-refused, line-made}
+use Rattle.formatting.proofs.Pairs.{pair-printed, pair-answered}
 use Rattle.guarantees.specs.Calls.{Call, taken}
 use Rattle.guarantees.specs.Claims.{termsOf, profileCell, lengthMade}
 use Rattle.guarantees.specs.Census as S
-use Rattle.guarantees.specs.Census.{queryAfter, cellsAfter, countOf, Countable, Uncounted, NumberReason, TallyReason, EveryReply, Numbered, Tally, Census, TheCensus}
+use Rattle.guarantees.specs.Census.{queryAfter, cellsAfter, countOf, Countable, Uncounted, NumberReason, TallyReason, EveryReply, Numbered, Tally, PrintedLines, Census, TheCensus}
 use Rattle.guarantees.proofs.Lines.{inside-not, outside-is}
 use Rattle.guarantees.proofs.Shown.{cell-least, made-least, query-terms}
 
@@ -53,7 +59,7 @@ module _ (m n : ℕ) where
   legal : Countable m n → L.Legal m n (m ^ n)
   legal c = L.legal m n (c .modulus .least) (c .modulus .most) (c .power)
 
-  counts-all : Countable m n → L.Counts m n (m ^ n)
+  counts-all : Countable m n → L.CountedAs m n (m ^ n)
   counts-all c = L.counted-fits m n (legal c)
 
   uncounted : {r : Refusal} → Uncounted m n r → L.RefusedBy m n r
@@ -135,17 +141,17 @@ module _ (m n : ℕ) (c : Countable m n) (query : List ℕ) (sized : length quer
   unfolding queryNumbered
   is-query x h = ap (λ (o : Outcome). filled o (queryNumbered m n x) query) (L.enumerate-done m n x query sized (counts-all m n c) h)
 
-  pub is-list : (x : ℕ) → x < m ^ n → termsOf (after x) ≡ listAt m n x
+  is-list : (x : ℕ) → x < m ^ n → termsOf (after x) ≡ listAt m n x
   is-list x h = ap termsOf (is-query x h) ∙ query-terms m (listAt m n x) (c .modulus .least) (c .modulus .most) (few x) (below x)
 
-  pub passes : (x : ℕ) → x < m ^ n → checkOf (after x) ≡ Done
+  passes : (x : ℕ) → x < m ^ n → checkOf (after x) ≡ Done
   passes x h = ap checkOf (is-query x h) ∙ query-passes m (listAt m n x) (c .modulus .least) (c .modulus .most) (few x) (below x)
 
-  pub modulus-is : (x : ℕ) → x < m ^ n → cellAt (after x) 0 ≡ m
+  modulus-is : (x : ℕ) → x < m ^ n → cellAt (after x) 0 ≡ m
   modulus-is x h =
       ap (λ (q : List ℕ). cellAt q 0) (is-query x h) ∙ query-modulus m (listAt m n x) (c .modulus .least) (c .modulus .most) (few x) (below x)
 
-  pub count-is : (x : ℕ) → x < m ^ n → cellAt (after x) 1 ≡ n
+  count-is : (x : ℕ) → x < m ^ n → cellAt (after x) 1 ≡ n
   count-is x h =
       ap (λ (q : List ℕ). cellAt q 1) (is-query x h) ∙ query-count m (listAt m n x) (c .modulus .least) (c .modulus .most) (few x) (below x)
       ∙ listAt-length m n x
@@ -160,7 +166,7 @@ module _ (m n : ℕ) (c : Countable m n) (query : List ℕ) (sized : length quer
       let w = numbered m pos n (listAt m n y) (listAt-of m pos n y) in
       w .only x hx (sym (is-list x hx) ∙ e ∙ is-list y hy) ∙ sym (w .only y hy refl)
 
-  pub numbers : Numbered m n query
+  numbers : Numbered m n query
   numbers =
       record {
         passes = passes;
@@ -237,6 +243,23 @@ module _ (m n : ℕ) (c : Countable m n) (query : List ℕ) (sized : length quer
           prime = λ P l a b. counted l (omega (arith, legally .few)) ∙ lengths-prime m P n l a b;
         }
 
+-- ---- the program's lines
+
+no-pair : (p : Pair) → isPair p ≡ false → answerOf p ≡ noPairLine
+no-pair (Numbers m n) h = false-true (sym h)
+no-pair NoPair h = refl
+
+lines : (m n : ℕ) (cells : List ℕ) → length cells ≡ tallyBytes → PrintedLines m n cells
+unfolding pairLine
+lines m n cells h =
+    record {
+      answered = pair-answered m n;
+      going = λ a b. ap isPair (pair-printed m n a b);
+      refused = λ r e. sym (line-refused m n cells h e);
+      tallied = λ e. sym (line-made m n cells h (cellsAfter m n cells) {o = tallyOf m n cells} refl refl e);
+      other = λ line e. no-pair (pairIn line) e;
+    }
+
 pub census : TheCensus
 unfolding TheCensus
 census m n query cells =
@@ -244,4 +267,5 @@ census m n query cells =
       replies = λ x. replies m n x query cells;
       numbers = λ c h. numbers m n c query h;
       tally = λ c h k. tallied m n c query h cells k;
+      lines = lines m n cells;
     }

@@ -2,7 +2,8 @@
 -- least lengths that the calls show.
 -- Assumes nothing.
 use mathlib.Core.Path.{_≡_}
-use mathlib.Core.List.{List}
+use mathlib.Core.Bool.{true, false}
+use mathlib.Core.List.{List, _∷_, _++_}
 use Prim.Native.Nat.{ℕ, zero, _*_, _-_, _^_, _≤_, _<_, min}
 use lib.Dec.{eqb}
 use lib.ListN.{length}
@@ -22,6 +23,9 @@ use Rattle.sequence.specs.Rules.{queryOf, checkOf}
 use Rattle.sequence.specs.Report.{filled}
 use Rattle.catalogue.specs.Rules.{recordBytes}
 use Rattle.enumeration.specs.Rules.{maxSequences, lengths, tallyBytes, enumerateOf, enumerateAnswer, queryNumbered, tallyOf, tallyAnswer, tallyCells}
+use Rattle.formatting.specs.Text.{numeral}
+use Rattle.formatting.specs.Listing.{refusalLine}
+use Rattle.formatting.specs.Census.{numberLimit, tallyLine, censusLine, pairIn, noPairLine, pairLine, isPair}
 use Rattle.guarantees.specs.Calls.{Call, taken}
 use Rattle.guarantees.specs.Claims.{termsOf, profileCell, lengthMade}
 use Rattle.guarantees.specs.Lines.{Inside}
@@ -118,11 +122,23 @@ pub record Tally (m n : ℕ) (query cells : List ℕ) : Type 0 where
   -- for a prime m: (m - 1) times m to the smaller of 2n - 2l and 2l - 1
   pub prime : Prime m → (l : ℕ) → 1 ≤ l → l ≤ n → cellAt (cellsAfter m n cells) l ≡ (m - 1) * m ^ min (2 * n - 2 * l) (2 * l - 1)
 
+-- ---- the program's lines
+
+-- What `census` writes for a line: a modulus and a count as they are printed are read as themselves, and answered by what the tally replies and writes,
+-- lent 13 cells: its refusal, or modulus, count and the cells 0 to n. Any other line is answered by another text, and ends it.
+pub record PrintedLines (m n : ℕ) (cells : List ℕ) : Type 0 where
+  pub answered : m < numberLimit → n < numberLimit → pairLine (numeral m ++ 32 ∷ numeral n) ≡ censusLine m n
+  pub going : m < numberLimit → n < numberLimit → isPair (pairIn (numeral m ++ 32 ∷ numeral n)) ≡ true
+  pub refused : (r : Refusal) → tallyOf m n cells ≡ Refused r → censusLine m n ≡ refusalLine r
+  pub tallied : tallyOf m n cells ≡ Done → censusLine m n ≡ tallyLine m n (cellsAfter m n cells)
+  pub other : (line : List ℕ) → isPair (pairIn line) ≡ false → pairLine line ≡ noPairLine
+
 -- For every m, n, number and buffer; and, where m to the power n is at most 4,096, for buffers of the right length.
 pub record Census (m n : ℕ) (query cells : List ℕ) : Type 0 where
   pub replies : (x : ℕ) → EveryReply m n x query cells
   pub numbers : Countable m n → length query ≡ queryBytes → Numbered m n query
   pub tally : Countable m n → length query ≡ queryBytes → length cells ≡ tallyBytes → Tally m n query cells
+  pub lines : length cells ≡ tallyBytes → PrintedLines m n cells
 
 unfoldable pub TheCensus : Type 0
 TheCensus = (m n : ℕ) (query cells : List ℕ) → Census m n query cells

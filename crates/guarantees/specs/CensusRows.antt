@@ -41,7 +41,13 @@ pub record CensusRows : Type 0 where
   -- the tallies of 02, zero past n
   pub two-three : cellsTo 2 3 ≡ padded (1 ∷ 2 ∷ 4 ∷ 1 ∷ [])
   pub four-two : cellsTo 4 2 ≡ padded (1 ∷ 10 ∷ 5 ∷ [])
-  pub two-three-done : tallyTo 2 3 ≡ granted []
+  pub four-two-done : tallyTo 4 2 ≡ granted []
+  -- thirteen cells in 26 bytes, and a query of 260
+  pub two-three-bytes :
+      cellsAfter 2 3 (sevens 26)
+      ≡ 1 ∷ 0 ∷ 2 ∷ 0 ∷ 4 ∷ 0 ∷ 1 ∷ 0 ∷ 0 ∷ 0 ∷ 0 ∷ 0 ∷ 0 ∷ 0 ∷ 0 ∷ 0 ∷ 0 ∷ 0 ∷ 0 ∷ 0 ∷ 0 ∷ 0 ∷ 0 ∷ 0 ∷ 0 ∷ 0 ∷ []
+  pub two-three-done : tallyAnswer 2 3 (sevens 26) ≡ granted []
+  pub six-done : enumerateAnswer 2 3 6 (sevens 260) ≡ granted []
   -- a prime, a product, one term, none
   pub three-three : cellsTo 3 3 ≡ padded (1 ∷ 6 ∷ 18 ∷ 2 ∷ [])
   pub six-two : cellsTo 6 2 ≡ padded (1 ∷ 20 ∷ 15 ∷ [])
@@ -116,6 +122,7 @@ pub record CensusRows : Type 0 where
   pub sixty-four : numberTo 64 2 4095 ≡ granted []
   -- where two apply, the first in the order is given: the two in a row's name
   pub number-order-5-1 : enumerateAnswer 1 3 0 (sevens 259) ≡ refused 5
+  pub number-order-5-2 : enumerateAnswer 2 129 0 (sevens 26) ≡ refused 5
   pub number-order-5-33 : enumerateAnswer 2 3 8 (sevens 0) ≡ refused 5
   pub number-order-1-2 : numberTo 1 129 0 ≡ refused 1
   pub number-order-1-33 : numberTo 4096 2 0 ≡ refused 1

@@ -52,7 +52,7 @@ loop-again c =
     (omega arith, omega (arith, div-le-self (l .left) (z .args .m)), parted-more _ _ _ (z .pre .1) (omega (arith, t .loop-test .taken)) (omega arith) (l .inv .2) (c .remainder .ensures))
 
 returns : tie.Need-returns Inv-loop μ-loop
-returns c = parted-all (c .before .before .pre .1) (omega (arith, c .loop-test .left)) (c .before .loop .inv .2)
+returns c = parted-all (omega (arith, c .loop-test .left)) (c .before .loop .inv .2)
 
 pub digits-spec : {M : Type 1} → statement M
 digits-spec =

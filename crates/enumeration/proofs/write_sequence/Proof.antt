@@ -3,7 +3,7 @@
 use mathlib.Core.Path.{refl}
 use native.Mathlib.Omega.{arith}
 use borrow.Author.Needs.{needs}
-use Rattle.enumeration.proofs.Laws.{Legal, counted, number-large, number-below, query-is}
+use Rattle.enumeration.proofs.Laws.{Legal, counted, number-refused, number-taken, query-is}
 use Rattle.enumeration.proofs.write_sequence.Statement.{statement}
 use Rattle.enumeration.proofs.write_sequence.Tie as tie
 
@@ -13,7 +13,7 @@ within z = counted _ _ _ (z .pre .0)
 returns : tie.Need-returns
 returns c =
     let a = c .before .before .args in
-    (number-large (a .k) (a .number) (omega (arith, c .if1 .taken)), refl)
+    (number-refused (a .k) (a .number) (omega (arith, c .if1 .taken)), refl)
 
 cast-digits : tie.Need-cast-digits
 cast-digits c = omega (arith, within (c .before .before) .small)
@@ -34,7 +34,7 @@ returns-2 c =
     let q = c .before .before in
     let d = q .before .before .before in
     let a = d .before .before .before .args in
-    (number-below (a .k) (a .number) (omega (arith, d .before .if1 .left)), query-is _ _ _ (d .digits .ensures) (q .write-query .ensures))
+    (number-taken (a .k) (a .number) (omega (arith, d .before .if1 .left)), query-is _ _ _ (d .digits .ensures) (q .write-query .ensures))
 
 pub write-sequence-spec : {M : Type 1} → statement M
 write-sequence-spec = tie.close (tie.spec returns cast-digits digits-requires write-query-requires same-length returns-2)

@@ -3,7 +3,7 @@
 use mathlib.Core.Path.{refl, sym, _∙_}
 use borrow.Author.Needs.{needs}
 use Rattle.formatting.proofs.Putting.{put-as}
-use Rattle.formatting.proofs.Tallies.{tally-refused, tally-made, tally-few}
+use Rattle.formatting.proofs.Tallies.{line-refused, line-made, line-few}
 use Rattle.formatting.proofs.census_line.Statement.{statement}
 use Rattle.formatting.proofs.census_line.Tie as tie
 
@@ -29,7 +29,7 @@ tally-line-requires : tie.Need-tally-line-requires
 tally-line-requires c κs =
     let tallied = c .before .before .before .before .before in
     let v = tallied .before .before .before .args in
-    (tally-few (v .m) (v .n) _ refl (tallied .tally .ensures .0) (c .before .before .enum-told .given .1), search needs, search needs)
+    (line-few (v .m) (v .n) _ refl (tallied .tally .ensures .0) (c .before .before .enum-told .given .1), search needs, search needs)
 
 same-length : tie.Need-same-length
 same-length c = search needs
@@ -39,7 +39,7 @@ returns c =
     let tallied = c .before .before .before .before .before .before .before .before in
     let v = tallied .before .before .before .args in
     let line = c .before .before .refusal-line .ensures in
-    (line .0, put-as (tally-refused (v .m) (v .n) _ refl (sym (tallied .tally .ensures .0) ∙ c .before .before .before .before .before .o .given .1)) (line .1))
+    (line .0, put-as (line-refused (v .m) (v .n) _ refl (sym (tallied .tally .ensures .0) ∙ c .before .before .before .before .before .o .given .1)) (line .1))
 
 same-length-2 : tie.Need-same-length-2
 same-length-2 c = search needs
@@ -49,7 +49,7 @@ returns-2 c =
     let tallied = c .before .before .before .before .before .before .before .before in
     let v = tallied .before .before .before .args in
     let line = c .before .before .tally-line .ensures in
-    (line .0, put-as (tally-made (v .m) (v .n) _ refl _ (tallied .tally .ensures .1 .0) (tallied .tally .ensures .0) (c .before .before .before .before .before .enum-told .given .1)) (line .1))
+    (line .0, put-as (line-made (v .m) (v .n) _ refl _ (tallied .tally .ensures .1 .0) (tallied .tally .ensures .0) (c .before .before .before .before .before .enum-told .given .1)) (line .1))
 
 pub census-line-spec : {M : Type 1} → statement M
 census-line-spec =

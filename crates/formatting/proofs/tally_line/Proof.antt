@@ -4,7 +4,7 @@ use native.Mathlib.Omega.{arith}
 use borrow.Author.Needs.{needs}
 use Rattle.lists.specs.Text.{bytes}
 use Rattle.formatting.proofs.Putting.{put-size, put-counts, put-more}
-use Rattle.formatting.proofs.Tallies.{tally-told}
+use Rattle.formatting.proofs.Tallies.{cells-told}
 use Rattle.formatting.proofs.tally_line.Statement.{statement}
 use Rattle.formatting.proofs.tally_line.Tie as tie
 
@@ -61,7 +61,7 @@ returns c =
     let pair = blank .before .before .before .before .before in
     let v = pair .before .before .before .before .args in
     let line = put-more (put-more (put-more (pair .put-pair .ensures .0) (blank .put .ensures)) (last .put-cells .ensures .0)) (c .before .before .put2 .ensures) in
-    let whole = tally-told (v .m) (v .n) _ (v .cells .now) line (omega arith) in
+    let whole = cells-told (v .m) (v .n) _ (v .cells .now) line (omega arith) in
     (put-counts whole, whole)
 
 pub tally-line-spec : {M : Type 1} → statement M
