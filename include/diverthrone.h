@@ -17,8 +17,10 @@
  * 2,147,483,647 and stands for its remainder from 0 to m - 1: -1 is m - 1, and -0 is 0.
  *
  * Replies. Every function answers refusal + 256 * value; take them apart with diverthrone_refusal and diverthrone_value.
- * On a refusal every lent buffer holds what it held. With refusals 3, 27, 28 and 31 the value is a place, counted from 0 (above 2^56 - 1,
- * which only a line could reach, it is told as 2^56 - 1), with every other refusal it is 0.
+ * On a refusal every lent buffer holds what it held. There is one exception: where a batch is answered, each query that is refused in it gets
+ * 778 zero bytes for its record.
+ * With refusals 3, 27, 28 and 31 the value is a place, counted from 0 (above 2^56 - 1, which only a line could reach, it is told as
+ * 2^56 - 1), with every other refusal it is 0.
  *
  *    refusal  meaning
  *       0     none
@@ -26,7 +28,8 @@
  *       2     the count of terms, or of cells to run, is above 128
  *       3     one of a query's terms is not below its modulus, or a digit of a period is above 1; the value is the place of the first of them
  *       4     a query holds something other than zero past its count
- *       5     a lent buffer has another length than stated, or the cells to run or the cells of a period are an odd number of bytes
+ *       5     a lent buffer has another length than stated, the cells to run or the cells of a period are an odd number of bytes, or the
+ *             queries of a batch no multiple of 260 bytes
  *       6     a candidate has a coefficient not below m, or a nonzero one past its end (a past the length, b from the length on)
  *      23     the catalogue's length is not a multiple of 778
  *      24     the record found is malformed (as in 25, 6, 26) or does not pass the test against the query
@@ -41,10 +44,12 @@
  *             is the place of the first such pair
  *      32     the number of cells lent as a period is none of 1, 2, 4, 8, 16, 32, 64
  *      33     the modulus to the power of the count is above 4,096, or the number of a sequence is not below that power
+ *      34     a batch has more than 16 queries
  *
  * Where several apply the first is given, in the order that each function states.
  *
- * What the caller must grant. Each pointer is valid for its length; with length 0 it may be NULL or any address.
+ * What the caller must grant. Each pointer is valid for its length; with length 0 it may be NULL or any address. The replies of a batch are
+ * aligned as a uint64_t, as an array of them is, also where there are none; bytes need no alignment.
  * A written buffer overlaps no other buffer of the same call. Nothing else: any bytes, any lengths.
  * There is no allocation, no global state and no I/O, so calls from several threads need no lock. A call uses at most 31 KB of stack.
  */
@@ -63,6 +68,9 @@ extern "C" {
 #define DIVERTHRONE_B_BYTES 256
 #define DIVERTHRONE_RECORD_BYTES 778
 #define DIVERTHRONE_TALLY_BYTES 26
+
+/* The most queries in a batch. */
+#define DIVERTHRONE_MAX_QUERIES 16
 
 /* The places in a record, in bytes from its start; the query stands at 0. */
 #define DIVERTHRONE_LENGTH_PLACE 260
@@ -86,6 +94,19 @@ uint64_t diverthrone_synthesize(const uint8_t *query, size_t query_len, uint8_t 
  * nothing else a visitor gets the same reply and the same bytes. The time that a call takes is not promised. */
 uint64_t diverthrone_look_up(const uint8_t *query, size_t query_len, const uint8_t *catalogue, size_t catalogue_len, uint64_t who,
                              uint8_t *record, size_t record_len);
+
+/* Looks up a batch: up to 16 queries of 260 bytes end to end, in one walk along the catalogue, in which each record is read once. Each query
+ * gets what diverthrone_look_up would give it alone from the same catalogue for who asks; queries may be equal, and each is answered.
+ * Of query i, counted from 0, replies[i] is that reply: 0 for a record made, 256 * (1 + its place) for one found, the number of a refusal, for
+ * 3 with its place. The 778 bytes of records from 778 * i on are that record, or zeros where the query is refused (1, 2, 3, 4, 24).
+ * records_len counts bytes, 778 for each query; replies_len counts numbers, one for each query.
+ * Value: how many queries were found + 256 * how many were made + 65,536 * how many were refused; the three add up to the number of queries
+ * and are taken out of a reply by diverthrone_batch_found, diverthrone_batch_made and diverthrone_batch_refused. A batch of none has value 0.
+ * Refusals in order: 5 (queries, records, replies), 34, 23. They are of the whole call, and records and replies then hold what they held.
+ * Neither the reply nor the replies depend on who asks, and from two catalogues that differ in accession numbers only a visitor gets the
+ * same bytes. */
+uint64_t diverthrone_look_up_batch(const uint8_t *queries, size_t queries_len, const uint8_t *catalogue, size_t catalogue_len, uint64_t who,
+                                   uint8_t *records, size_t records_len, uint64_t *replies, size_t replies_len);
 
 /* Tests a candidate register of this length against a query. Value: 0 for yes, 1 + the first place where the product and b differ for no.
  * Refusals in order: 5 (query, a, b), 1, 2, 3, 4, 25, 6, 26. */
@@ -141,6 +162,13 @@ static inline unsigned diverthrone_refusal(uint64_t reply) { return (unsigned)(r
 
 static inline uint64_t diverthrone_value(uint64_t reply) { return reply / 256; }
 
+/* The three numbers in the reply to a batch, of queries found, made and refused; each is 0 where the whole call is refused. */
+static inline unsigned diverthrone_batch_found(uint64_t reply) { return (unsigned)(diverthrone_value(reply) % 256); }
+
+static inline unsigned diverthrone_batch_made(uint64_t reply) { return (unsigned)(diverthrone_value(reply) / 256 % 256); }
+
+static inline unsigned diverthrone_batch_refused(uint64_t reply) { return (unsigned)(diverthrone_value(reply) / 65536); }
+
 /* The number in a cell of two bytes: of a query, of a register, of a tally, or at a place in a record. Cells count from 0. */
 static inline unsigned diverthrone_cell(const uint8_t *bytes, size_t cell) { return bytes[2 * cell] + 256u * bytes[2 * cell + 1]; }
 
@@ -160,6 +188,12 @@ static inline uint8_t *diverthrone_out(uint8_t *bytes, size_t len) {
     return bytes == NULL && len == 0 ? &none : bytes;
 }
 
+/* A number where numbers are lent, since it is aligned as they are. */
+static inline uint64_t *diverthrone_out_numbers(uint64_t *numbers, size_t len) {
+    static uint64_t none = 0;
+    return numbers == NULL && len == 0 ? &none : numbers;
+}
+
 static inline uint64_t diverthrone_synthesize_null(const uint8_t *query, size_t query_len, uint8_t *record, size_t record_len) {
     return diverthrone_synthesize(diverthrone_in(query, query_len), query_len, diverthrone_out(record, record_len), record_len);
 }
@@ -168,6 +202,14 @@ static inline uint64_t diverthrone_look_up_null(const uint8_t *query, size_t que
                                                 uint64_t who, uint8_t *record, size_t record_len) {
     return diverthrone_look_up(diverthrone_in(query, query_len), query_len, diverthrone_in(catalogue, catalogue_len), catalogue_len, who,
                                diverthrone_out(record, record_len), record_len);
+}
+
+static inline uint64_t diverthrone_look_up_batch_null(const uint8_t *queries, size_t queries_len, const uint8_t *catalogue,
+                                                      size_t catalogue_len, uint64_t who, uint8_t *records, size_t records_len,
+                                                      uint64_t *replies, size_t replies_len) {
+    return diverthrone_look_up_batch(diverthrone_in(queries, queries_len), queries_len, diverthrone_in(catalogue, catalogue_len),
+                                     catalogue_len, who, diverthrone_out(records, records_len), records_len,
+                                     diverthrone_out_numbers(replies, replies_len), replies_len);
 }
 
 static inline uint64_t diverthrone_verify_null(const uint8_t *query, size_t query_len, const uint8_t *a, size_t a_len, const uint8_t *b,
@@ -206,6 +248,7 @@ static inline uint64_t diverthrone_tally_null(uint32_t modulus, uint32_t count, 
 
 #define diverthrone_synthesize diverthrone_synthesize_null
 #define diverthrone_look_up diverthrone_look_up_null
+#define diverthrone_look_up_batch diverthrone_look_up_batch_null
 #define diverthrone_verify diverthrone_verify_null
 #define diverthrone_generate diverthrone_generate_null
 #define diverthrone_read_line diverthrone_read_line_null

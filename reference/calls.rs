@@ -1,4 +1,4 @@
-//! The calls of document 01, and of requests A1 to A3, A5 and A7 to A11 in 02, on plain
+//! The calls of document 01, and of requests A1 to A3, A5 and A7 to A12 in 02, on plain
 //! values and byte buffers.
 //!
 //! "Order where several apply: 5, 21, 1, 2, 22, 3, 4, 6, 23, 24. Each call gives
@@ -6,8 +6,9 @@
 //! after it, and only the 5 of a sheet comes after 21. 27 and 28 come after 5 and before
 //! 1, the one with the lower place. Of two slips the first has all of 1 to 4 before the
 //! second, and 29, 30, 31 follow. 32 comes after 5 and before 3, and 33 after 5, 1 and 2. A
+//! bundle of slips is refused by 5, 34 or 23 as a whole, before any slip's own. A
 //! refused call leaves every lent byte as it was, and a reading too, but for the terms that a
-//! column took before its refusal.
+//! column took before its refusal, and for the zeros in place of a refused slip of a bundle.
 
 use crate::census::{how_many, numbered, tally_of};
 use crate::join::{
@@ -46,6 +47,14 @@ pub enum Verdict {
 pub enum Served {
     Found(usize),
     Made,
+}
+
+/// How many slips of a bundle were found, made and refused, "each counted once".
+#[derive(Clone, Copy, Default, PartialEq, Eq, Debug)]
+pub struct Counts {
+    pub found: usize,
+    pub made: usize,
+    pub refused: usize,
 }
 
 /// A modulus and terms that passed the checks.
@@ -433,6 +442,53 @@ fn check_record(sequence: &Sequence, record: &[u8]) -> Result<(), Refusal> {
     let (a, b) = (&record[RECORD_A_AT..RECORD_B_AT], &record[RECORD_B_AT..RECORD_NUMBER_AT]);
     let claim = check_claim(sequence.modulus, a, b, l).map_err(|_| Refusal::Record)?;
     demand(verdict(sequence, &claim) == Verdict::Yes, Refusal::Record)
+}
+
+// ---- a bundle of slips ----
+
+/// Serves a bundle of slips end to end, each alone from the whole shelf: 5 (slips, records,
+/// replies), 34 and 23 for the whole call, and then nothing is written. 02, A12: "every reply,
+/// refusal and found place is what that slip alone would get from the same shelf", and a "slip
+/// refused gets 778 zero bytes in its place".
+pub fn look_up_batch(
+    slips: &[u8],
+    shelf: &[u8],
+    who: u64,
+    records: &mut [u8],
+    replies: &mut [u64],
+) -> Result<Counts, Refusal> {
+    let count = slips.len() / SLIP_BYTES;
+    demand(slips.len() % SLIP_BYTES == 0, Refusal::Buffer)?;
+    demand(records.len() == count * RECORD_BYTES, Refusal::Buffer)?;
+    demand(replies.len() == count, Refusal::Buffer)?;
+    demand(count <= BUNDLE_LIMIT, Refusal::Bundle)?;
+    demand(shelf.len() % RECORD_BYTES == 0, Refusal::Shelf)?;
+    let parts = records.chunks_exact_mut(RECORD_BYTES).zip(replies);
+    let mut counts = Counts::default();
+    for (slip, (part, reply)) in slips.chunks_exact(SLIP_BYTES).zip(parts) {
+        let outcome = look_up(slip, shelf, who, part);
+        match outcome {
+            Ok(Served::Found(_)) => counts.found += 1,
+            Ok(Served::Made) => counts.made += 1,
+            Err(_) => {
+                part.fill(0);
+                counts.refused += 1;
+            }
+        }
+        *reply = coded(outcome);
+    }
+    Ok(counts)
+}
+
+/// A serving's outcome as one number: the refusal, or 0, and 256 times a value, which is the place
+/// that a refusal carries, or 1 more than the number of the record found.
+fn coded(outcome: Result<Served, Refusal>) -> u64 {
+    let (refusal, value) = match outcome {
+        Ok(Served::Made) => (0, 0),
+        Ok(Served::Found(index)) => (0, 1 + index),
+        Err(refusal) => (refusal.number(), refusal.place().unwrap_or(0)),
+    };
+    u64::from(refusal) + 256 * value as u64
 }
 
 /// A modulus and terms as a slip; more than 128 terms are not written.

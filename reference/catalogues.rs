@@ -24,7 +24,7 @@ pub fn catalogues(seed: u64, count: u64) -> Vec<u8> {
 // ---- by hand ----
 
 /// Who asks, each of those that matter.
-const ASKERS: [u32; 14] =
+pub const ASKERS: [u32; 14] =
     [1, 0, 2, 3, 255, 256, 257, 65535, 65536, 65537, 0x0100_0001, 1 << 31, (1 << 31) + 1, u32::MAX];
 
 /// 6,3,1,5,6 modulo 9, which is asked for by hand.
@@ -67,7 +67,7 @@ fn by_hand() -> Vec<Call> {
 }
 
 /// The bytes that make a record bad: 25, 6, 26, a test that says no, and the last cell of b.
-const BAD: [(usize, u8); 6] = [(260, 129), (522, 9), (262, 2), (268, 2), (774, 1), (775, 1)];
+pub const BAD: [(usize, u8); 6] = [(260, 129), (522, 9), (262, 2), (268, 2), (774, 1), (775, 1)];
 
 /// 128 terms modulo 4,095 as b, with a = 1: a good record that has few zeros, and none in the
 /// last cell of b.
@@ -109,10 +109,10 @@ fn with_numbers(who: u32) -> Vec<Call> {
 }
 
 /// The bytes that make the slip a wrong one: 1, 2, 3 at 0, at 1 and at 127, 4.
-const WRONG: [&[(usize, u8)]; 6] =
+pub const WRONG: [&[(usize, u8)]; 6] =
     [&[(0, 1)], &[(2, 129)], &[(4, 9)], &[(6, 9)], &[(2, 128), (258, 9)], &[(258, 1)]];
 
-fn put(bytes: &mut [u8], faults: &[(usize, u8)]) {
+pub fn put(bytes: &mut [u8], faults: &[(usize, u8)]) {
     for &(place, byte) in faults {
         bytes[place] = byte;
     }
@@ -211,7 +211,7 @@ fn renumber(random: &mut Random, call: &mut Call) {
     }
 }
 
-fn set_number(record: &mut [u8], number: u16) {
+pub fn set_number(record: &mut [u8], number: u16) {
     record[RECORD_NUMBER_AT..].copy_from_slice(&number.to_le_bytes());
 }
 
@@ -221,7 +221,7 @@ pub fn accession(random: &mut Random) -> u16 {
     random.pick(&[0, 1, 255, 256, 65535, bit, any & 0x00ff, any & 0xff00, any, any])
 }
 
-fn visitor(random: &mut Random) -> u32 {
+pub fn visitor(random: &mut Random) -> u32 {
     let any = (random.next() as u32).max(2);
     if random.once_in(12) {
         any
@@ -287,7 +287,7 @@ fn lent(random: &mut Random, shelf: Vec<u8>) -> Vec<u8> {
 
 /// The records without their numbers: "Old shelves we rewrite ourselves before we lend
 /// them; the desk takes every shelf as one of the new size."
-fn without_numbers(shelf: &[u8]) -> Vec<u8> {
+pub fn without_numbers(shelf: &[u8]) -> Vec<u8> {
     shelf.chunks(RECORD_BYTES).flat_map(|record| &record[..RECORD_NUMBER_AT]).copied().collect()
 }
 
@@ -318,14 +318,14 @@ fn shelf(random: &mut Random, query: &(u64, Vec<u64>)) -> Vec<u8> {
     shelf
 }
 
-fn made(m: u64, terms: &[u64]) -> Vec<u8> {
+pub fn made(m: u64, terms: &[u64]) -> Vec<u8> {
     record_with(&slip_of(m, terms), &register_of(m, terms))
 }
 
 /// A record whose first 260 bytes are the query's: as made, with another good
 /// candidate, with a bad one, with one that fails its test, or with another last cell of b,
 /// which the number comes right after.
-fn matching(random: &mut Random, (m, terms): &(u64, Vec<u64>)) -> Vec<u8> {
+pub fn matching(random: &mut Random, (m, terms): &(u64, Vec<u64>)) -> Vec<u8> {
     let mut register = register_of(*m, terms);
     let kind = random.below(12);
     match kind {
@@ -354,7 +354,7 @@ fn matching(random: &mut Random, (m, terms): &(u64, Vec<u64>)) -> Vec<u8> {
 }
 
 /// A record of another slip: near to the query's or far from it.
-fn differing(random: &mut Random, (m, terms): &(u64, Vec<u64>)) -> Vec<u8> {
+pub fn differing(random: &mut Random, (m, terms): &(u64, Vec<u64>)) -> Vec<u8> {
     match random.below(8) {
         0 => {
             // One byte of the first 260 differs.

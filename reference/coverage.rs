@@ -1,9 +1,11 @@
 //! What the random slips, scripts and typed lines meet: every refusal of every call, the
 //! places, the kinds of bad claims, of lines, of columns, of servings, of answers of A8, of
-//! merges, of periods, of numbers, tallies and lines of the census, and how the orders stand to
-//! the starts. The seeds are those that tests/expectations.sh uses.
+//! merges, of periods, of numbers, tallies and lines of the census, of bundles, and how the orders
+//! stand to the starts. The seeds are those that tests/expectations.sh uses.
 
 use crate::ask::{self, ask, LINE_LIMIT};
+use crate::bundles;
+use crate::bundlesmet;
 use crate::calls::*;
 use crate::cases::{told, Told};
 use crate::catalogues::{catalogues, rounds};
@@ -34,7 +36,7 @@ use std::collections::{BTreeMap, BTreeSet};
 const LEAST: usize = 3;
 
 /// The calls and the refusals that each has.
-const REFUSALS: [(&str, &[u32]); 18] = [
+const REFUSALS: [(&str, &[u32]); 19] = [
     ("open", &[1]),
     ("push", &[21, 22, 3]),
     ("register", &[5, 21]),
@@ -50,6 +52,8 @@ const REFUSALS: [(&str, &[u32]); 18] = [
     ("period_length", &[5, 32, 3]),
     ("enumerate", &[5, 1, 2, 33]),
     ("tally", &[5, 1, 2, 33]),
+    // Those of the whole call; a slip's own stand in its reply.
+    ("look_up_batch", &[5, 34, 23]),
     // A piece that is too short is put after the slips.
     ("listing", &[1, 2, 3, 4]),
     ("ask", &[5, 27, 28, 1, 2]),
@@ -73,6 +77,7 @@ pub fn met(group: &mut Group) {
         merges::merges(16, 1500),
         periods::periods(17, 600),
         numbers::numbers(18, 600),
+        bundles::bundles(19, 400),
     ]
     .concat();
     let slips = sequences::slips(21, 2400);
@@ -96,11 +101,14 @@ pub fn met(group: &mut Group) {
     numbersmet::met(group, &script);
     numbersmet::tallies_met(group, &script);
     numbersmet::lines_met(group, &lines);
+    bundlesmet::met(group, &script);
+    bundlesmet::by_hand_met(group, &script);
     // Those by hand have each kind; without them it takes more.
     servings::met(group, &rounds(14, 2000));
     mergesmet::met(group, &merges::rounds(16, 40000));
     periodsmet::met(group, &periods::rounds(17, 40000));
     numbersmet::met(group, &numbers::rounds(18, 40000));
+    bundlesmet::met(group, &bundles::rounds(19, 1300));
 }
 
 /// The text with the name of its command before each line.

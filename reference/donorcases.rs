@@ -8,7 +8,7 @@ use crate::script::{replay, Call, Operation};
 
 /// Who asks, and whether it is an editor. The others would be one if their number were cut
 /// to 8, 16 or 32 bits, or if 0, or any number but 0, meant one.
-const ASKERS: [(u64, bool); 12] = [
+pub const ASKERS: [(u64, bool); 12] = [
     (0, false),
     (1, true),
     (2, false),
@@ -53,7 +53,7 @@ pub fn by_hand(group: &mut Group) {
 // ---- records ----
 
 /// 778 bytes: these at these places, then the number, and 0 elsewhere.
-fn written(bytes: &[(usize, u8)], [low, high]: [u8; 2]) -> Vec<u8> {
+pub fn written(bytes: &[(usize, u8)], [low, high]: [u8; 2]) -> Vec<u8> {
     let mut record = vec![0; 778];
     for &(place, byte) in bytes.iter().chain(&[(776, low), (777, high)]) {
         record[place] = byte;
@@ -62,7 +62,7 @@ fn written(bytes: &[(usize, u8)], [low, high]: [u8; 2]) -> Vec<u8> {
 }
 
 /// Case 3 of 01: 6,3,1,5,6 modulo 9 has l 3, a 1,4,7,1 and b 6,0,1.
-const CASE_3: [(usize, u8); 14] = [
+pub const CASE_3: [(usize, u8); 14] = [
     (0, 9),
     (2, 5),
     (4, 6),
@@ -79,19 +79,19 @@ const CASE_3: [(usize, u8); 14] = [
     (524, 1),
 ];
 
-fn case_3(number: [u8; 2]) -> Vec<u8> {
+pub fn case_3(number: [u8; 2]) -> Vec<u8> {
     written(&CASE_3, number)
 }
 
 /// Case 6 of 01: 2,1 modulo 4 has l 2, a 1,0,0 and b 2,1.
-fn case_6(number: [u8; 2]) -> Vec<u8> {
+pub fn case_6(number: [u8; 2]) -> Vec<u8> {
     let bytes = [(0, 4), (2, 2), (4, 2), (6, 1), (260, 2), (262, 1), (520, 2), (522, 1)];
     written(&bytes, number)
 }
 
 /// 128 terms modulo 4,095, l 128, a 1 and b the terms: a good claim, whose record has other
 /// bytes than 0 right before the number.
-fn full(number: [u8; 2]) -> Vec<u8> {
+pub fn full(number: [u8; 2]) -> Vec<u8> {
     let start = [(0, 0xff), (1, 0x0f), (2, 128), (260, 128), (262, 1)];
     let cells = (0..128).flat_map(|i| [4 + 2 * i, 520 + 2 * i]);
     let bytes = cells.flat_map(|at| [(at, 0x0d), (at + 1, 0x0e)]);
@@ -238,7 +238,7 @@ fn first_match_decides(group: &mut Group) {
 
 /// What 24 is for: a length of 129, a coefficient that is 9, an a_0 of 2, a test that says no
 /// (case 11), and each byte of the last cell of b, which the number comes right after.
-const BAD: [(usize, u8); 7] =
+pub const BAD: [(usize, u8); 7] =
     [(260, 129), (522, 9), (264, 9), (262, 2), (268, 2), (774, 1), (775, 1)];
 
 /// "The test behind 24" ignores the number: 24 whatever it is, also if the next one is good.

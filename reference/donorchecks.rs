@@ -13,14 +13,14 @@ use crate::selftest::sample;
 use crate::servings;
 
 /// The buffers of a serving.
-struct Serving {
-    slip: Vec<u8>,
-    shelf: Vec<u8>,
-    lent: Vec<u8>,
+pub struct Serving {
+    pub slip: Vec<u8>,
+    pub shelf: Vec<u8>,
+    pub lent: Vec<u8>,
 }
 
 /// The reply to a serving, and the lent record after it.
-type Outcome = (Result<Served, Told>, Vec<u8>);
+pub type Outcome = (Result<Served, Told>, Vec<u8>);
 
 impl Serving {
     fn of(call: &Call) -> Serving {
@@ -28,7 +28,7 @@ impl Serving {
         Serving { slip, shelf, lent }
     }
 
-    fn to(&self, who: u64) -> Outcome {
+    pub fn to(&self, who: u64) -> Outcome {
         let mut record = self.lent.clone();
         let reply = told(look_up(&self.slip, &self.shelf, who, &mut record));
         (reply, record)
@@ -36,7 +36,7 @@ impl Serving {
 }
 
 /// Anyone but 1; some of these are 1 in their low bits.
-fn visitor(random: &mut Random) -> u64 {
+pub fn visitor(random: &mut Random) -> u64 {
     let any = random.next().max(2);
     let low = (any << random.between(1, 63)).max(2) | 1;
     random.pick(&[0, 2, 257, 65_537, (1 << 32) + 1, any, any, low, low, u64::MAX])
@@ -63,7 +63,7 @@ pub fn by_bytes(group: &mut Group) {
 }
 
 /// What a serving has to come to, step by step in the order of its refusals.
-fn expected(serving: &Serving, who: u64) -> Outcome {
+pub fn expected(serving: &Serving, who: u64) -> Outcome {
     let Serving { slip, shelf, lent } = serving;
     let refused = |refusal| (Err(refusal), lent.clone());
     if slip.len() != 260 || lent.len() != 778 {
@@ -158,7 +158,7 @@ fn check_editor(group: &mut Group, [one, other]: [&Serving; 2], (reply, seen): &
 
 /// The shelf with other accession numbers: none, others everywhere, one bit of one record, or
 /// at random.
-fn renumbered(random: &mut Random, shelf: &[u8]) -> Vec<u8> {
+pub fn renumbered(random: &mut Random, shelf: &[u8]) -> Vec<u8> {
     let mut shelf = shelf.to_vec();
     let kind = random.below(4);
     let one = random.place(shelf.len() / 778);

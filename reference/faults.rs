@@ -90,6 +90,14 @@ fn check_passed_on(group: &mut Group, slip: &[u8], place: usize) {
         group.check(merging == Err(refusal), words);
     }
     group.check(record == [0x5a; RECORD_BYTES], words);
+    // In a bundle it is the reply, and the part is zeros.
+    let (mut records, mut replies) = ([0x5a; 3 * RECORD_BYTES], [0x5a; 3]);
+    let bundle = [slip, &short, slip].concat();
+    let told = look_up_batch(&bundle, &[], 1, &mut records, &mut replies);
+    let reply = 3 + 256 * place as u64;
+    group.check(told == Ok(Counts { found: 0, made: 1, refused: 2 }), words);
+    let zeros = [&records[..RECORD_BYTES], &records[2 * RECORD_BYTES..]].concat();
+    group.check(replies == [reply, 0, reply] && zeros == [0; 2 * RECORD_BYTES], words);
     let text = format!("{HEADER}\nrefused 3 at {place}\n");
     group.check(listing(slip) == text && working(slip) == text, words);
 }
@@ -209,5 +217,15 @@ fn check_tested(group: &mut Group, claim: &Candidate, outcome: Result<(), Refusa
         group.check(serving == expected, told);
         let filled = if expected.is_ok() { claim.record(shown) } else { lent };
         group.check(record == filled, told);
+        // Alone in a bundle: zeros where it is refused.
+        let mut reply = [0x5a];
+        let _ = look_up_batch(&claim.slip, &claim.record(number), who, &mut record, &mut reply);
+        let zeros = vec![0; RECORD_BYTES];
+        let part = if expected.is_ok() { claim.record(shown) } else { zeros };
+        let code = match expected {
+            Ok(_) => 256,
+            Err(refusal) => refusal.number() as usize + 256 * refusal.place().unwrap_or(0),
+        };
+        group.check(record == part && reply == [code as u64], told);
     }
 }

@@ -1,4 +1,4 @@
-//! The limits and sizes of document 01 and of requests A7, A10 and A11 in 02, each in one place.
+//! The limits and sizes of document 01 and of requests A7 and A10 to A12 in 02, each in one place.
 
 /// "m from 2 to 4,095": the largest legal modulus. The arithmetic is wide
 /// enough for any value up to 65,535.
@@ -44,6 +44,9 @@ pub const CENSUS_LIMIT: u64 = 4096;
 /// most 12.
 pub const TALLY_CELLS: usize = 13;
 pub const TALLY_BYTES: usize = TALLY_CELLS * CELL_BYTES;
+
+/// 02, A12: "Up to 16 slips end to end".
+pub const BUNDLE_LIMIT: usize = 16;
 
 /// The step records of the longest sheet there can be: n times the sum of the e, and
 /// that sum is at most 15, because 2^16 is above 65,535.

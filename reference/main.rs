@@ -3,6 +3,10 @@
 
 mod apply;
 mod ask;
+mod bundlecases;
+mod bundlechecks;
+mod bundles;
+mod bundlesmet;
 mod calls;
 mod cases;
 mod catalogues;
@@ -78,6 +82,7 @@ const USAGE: &str = "usage: reference COMMAND
   merges SEED COUNT       a script of merges of two slips
   periods SEED COUNT      a script of lengths of periods
   numbers SEED COUNT      a script of sequences by their numbers and of tallies
+  bundles SEED COUNT      a script of bundles of slips, served
   pairs SEED COUNT        random lines with a modulus and a count
   selftest                checks this program against itself and the papers
 ";
@@ -106,6 +111,7 @@ fn main() -> ExitCode {
         ["merges", seed, count] => generated(seed, count, merges::merges),
         ["periods", seed, count] => generated(seed, count, periods::periods),
         ["numbers", seed, count] => generated(seed, count, numbers::numbers),
+        ["bundles", seed, count] => generated(seed, count, bundles::bundles),
         ["pairs", seed, count] => generated(seed, count, pairs::pairs),
         ["selftest"] => ExitCode::from(u8::from(!selftest::selftest())),
         _ => usage(),

@@ -34,6 +34,7 @@ pub fn orders(group: &mut Group) {
     orders_of_periods(group);
     orders_of_numbers(group);
     orders_of_tallies(group);
+    orders_of_bundles(group);
 }
 
 /// Each kind of fault for itself, with its number and place.
@@ -380,6 +381,57 @@ fn orders_of_tallies(group: &mut Group) {
     }
 }
 
+/// 02, A12: 34 comes "after 5, before 23, and it concerns the whole call, as those two do". Then a
+/// slip has its own, 1 to 4 and 24, in its reply: the first, the ninth and the last of 16.
+fn orders_of_bundles(group: &mut Group) {
+    let order = [&[bare(5), bare(34), bare(23)][..], &OF_SLIP, &[bare(24)]].concat();
+    for (buffer, place) in (0..6).flat_map(|buffer| [0, 8, 15].map(|place| (buffer, place))) {
+        every_set(group, "a bundle", &order, |with| in_bundle(with, buffer, place));
+    }
+}
+
+/// What the faulty slip at this place gets in a bundle of 16, or of 17, or the whole call. One of
+/// the three buffers is too short or too long, and the record found has a coefficient that is 9.
+fn in_bundle(with: With, buffer: usize, place: usize) -> Result<(), Refusal> {
+    let count = if with(34) { 17 } else { 16 };
+    let (slip, good) = (faulty_slip(with), slip_of(2, &[]));
+    let mut slips = [good.repeat(place), slip.clone(), good.repeat(count - 1 - place)].concat();
+    let (a, b, l) = faulty_claim(&|number| with(24) && number == 6);
+    let record = [&slip[..], &(l as u16).to_le_bytes(), &a, &b, &[7, 7]].concat();
+    let shelf = record[..shortened(RECORD_BYTES, with(23))].to_vec();
+    let (mut records, mut replies) = (vec![7; count * RECORD_BYTES], vec![7; count]);
+    match (with(5), buffer) {
+        (false, _) => {}
+        (true, 0) => drop(slips.pop()),
+        (true, 1) => slips.push(0),
+        (true, 2) => drop(records.pop()),
+        (true, 3) => records.push(7),
+        (true, 4) => drop(replies.pop()),
+        (true, _) => replies.push(7),
+    }
+    let outcome = look_up_batch(&slips, &shelf, 1, &mut records, &mut replies);
+    let as_lent = records.iter().all(|&byte| byte == 7) && replies.iter().all(|&one| one == 7);
+    kept(outcome, as_lent)?;
+    let others = replies.iter().enumerate().all(|(i, &reply)| i == place || reply == 0);
+    let reply = told_by(replies[place]);
+    let part = &records[RECORD_BYTES * place..][..RECORD_BYTES];
+    let zeros = part.iter().all(|&byte| byte == 0);
+    kept(if others { reply } else { Err(Refusal::Bundle) }, zeros)
+}
+
+/// The refusal that a reply of a bundle tells; one that no slip has is no outcome of any order.
+fn told_by(reply: u64) -> Result<(), Refusal> {
+    match (reply % 256, reply as usize / 256) {
+        (0, _) => Ok(()),
+        (1, 0) => Err(Refusal::Modulus),
+        (2, 0) => Err(Refusal::TooMany),
+        (3, place) => Err(Refusal::Term(place)),
+        (4, 0) => Err(Refusal::Padding),
+        (24, 0) => Err(Refusal::Record),
+        _ => Err(Refusal::Bundle),
+    }
+}
+
 // ---- each kind of fault ----
 
 /// Each refusal has its number in the papers, 3, 27, 28 and 31 alone have a place, and the
@@ -409,6 +461,7 @@ fn numbers_and_words(group: &mut Group) {
         (Refusal::Disagreement(127), (31, Some(127)), "refused 31 at 127"),
         (Refusal::Period, bare(32), "refused 32"),
         (Refusal::Census, bare(33), "refused 33"),
+        (Refusal::Bundle, bare(34), "refused 34"),
     ];
     for (refusal, expected, words) in all {
         group.check(told::<()>(Err(refusal)) == Err(expected), || format!("{refusal:?}"));
@@ -445,7 +498,7 @@ fn wrong_slips(group: &mut Group) {
     }
 }
 
-/// Making, serving, testing, merging and the listing all pass on the refusal of a slip,
+/// Making, serving, testing, merging, a bundle and the listing all pass on the refusal of a slip,
 /// before anything that is wrong with the shelf, the claim or both slips.
 fn check_wrong_slip(group: &mut Group, slip: &[u8], told_for_it: Told, words: impl Fn() -> String) {
     let mut record = [5; RECORD_BYTES];
@@ -465,9 +518,30 @@ fn check_wrong_slip(group: &mut Group, slip: &[u8], told_for_it: Told, words: im
     }
     group.check(record == [5; RECORD_BYTES], || String::from("the record stays"));
     let (number, place) = told_for_it;
+    let reply = u64::from(number) + 256 * place.unwrap_or(0) as u64;
+    group.check(replies_around(slip) == [0, reply, 0], || format!("in a bundle: {}", words()));
     let at = place.map_or(String::new(), |place| format!(" at {place}"));
     let line = format!("{HEADER}\nrefused {number}{at}\n");
     group.check(listing(slip) == line, || format!("listing {}: {}", words(), listing(slip)));
+}
+
+/// The replies of a bundle that has the slip between two good ones, from a shelf where it stands;
+/// none if the numbers or the bytes of the parts are others than those of two records made and a
+/// slip refused.
+fn replies_around(slip: &[u8]) -> Vec<u64> {
+    let empty = slip_of(4093, &[]);
+    let shelf = [slip, &[0; RECORD_BYTES - SLIP_BYTES]].concat();
+    let (mut records, mut replies) = ([5; 3 * RECORD_BYTES], [5; 3]);
+    let slips = [&empty[..], slip, &empty].concat();
+    let counts = look_up_batch(&slips, &shelf, 1, &mut records, &mut replies);
+    let made = record_with(&empty, &join::register(4093, &[]));
+    let parts = [&made[..], &[0; RECORD_BYTES], &made].concat();
+    let right = counts == Ok(Counts { found: 0, made: 2, refused: 1 }) && records[..] == parts;
+    if right {
+        replies.to_vec()
+    } else {
+        Vec::new()
+    }
 }
 
 /// Every place of every count: one term out of range there, and others after it too; a

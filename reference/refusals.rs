@@ -1,4 +1,4 @@
-//! The refusals of 01 and of 02 as far as A11, with their numbers and the place that
+//! The refusals of 01 and of 02 as far as A12, with their numbers and the place that
 //! a 3, a 27, a 28 or a 31 carries.
 
 use std::fmt;
@@ -52,6 +52,8 @@ pub enum Refusal {
     Period,
     /// 33: "the power is above 4,096, or the number is not below it".
     Census,
+    /// 34: "the bundle holds more than 16 slips".
+    Bundle,
 }
 
 impl Refusal {
@@ -77,6 +79,7 @@ impl Refusal {
             Refusal::Disagreement(_) => 31,
             Refusal::Period => 32,
             Refusal::Census => 33,
+            Refusal::Bundle => 34,
         }
     }
 

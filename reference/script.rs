@@ -1,6 +1,6 @@
 //! The byte script of calls, and its replay as text. README.md has the format.
 
-use crate::calls::{self, Reading, Reported, Served, Verdict};
+use crate::calls::{self, Counts, Reading, Reported, Served, Verdict};
 use crate::limits::{SHEET_LIMIT, SLIP_BYTES};
 use crate::refusals::Refusal;
 use crate::steps::StepRecord;
@@ -26,9 +26,10 @@ pub enum Operation {
     PeriodLength = 13,
     Enumerate = 14,
     Tally = 15,
+    LookUpBatch = 16,
 }
 
-const OPERATIONS: [(Operation, &str); 16] = [
+const OPERATIONS: [(Operation, &str); 17] = [
     (Operation::Open, "open"),
     (Operation::Push, "push"),
     (Operation::Register, "register"),
@@ -45,11 +46,12 @@ const OPERATIONS: [(Operation, &str); 16] = [
     (Operation::PeriodLength, "period_length"),
     (Operation::Enumerate, "enumerate"),
     (Operation::Tally, "tally"),
+    (Operation::LookUpBatch, "look_up_batch"),
 ];
 
 /// One call of a script. `number` is the modulus, the term, the l of a test, who asks in
-/// a serving or the records of a sheet; `l` is the l of a run. The payload is the bytes of
-/// buffers, or the numbers of a call of the census.
+/// a serving or the records of a sheet; `l` is the l of a run, or how many replies a bundle
+/// has room for. The payload is the bytes of buffers, or the numbers of a call of the census.
 #[derive(Clone, PartialEq, Eq, Debug)]
 pub struct Call {
     pub operation: Operation,
@@ -66,7 +68,10 @@ impl Call {
     fn in_payload(operation: Operation) -> [bool; 3] {
         match operation {
             Operation::Verify => [true, true, true],
-            Operation::Generate | Operation::LookUp | Operation::Merge => [true, true, false],
+            Operation::Generate
+            | Operation::LookUp
+            | Operation::Merge
+            | Operation::LookUpBatch => [true, true, false],
             Operation::Synthesize
             | Operation::Forge
             | Operation::ReadLine
@@ -139,6 +144,12 @@ impl Call {
         }
         buffers
     }
+
+    /// The replies of a bundle as they are lent, eight fill bytes each; no other call has any.
+    pub fn replies(&self) -> Vec<u64> {
+        let has = self.operation == Operation::LookUpBatch;
+        vec![u64::from_le_bytes([self.fill; 8]); if has { self.l as usize } else { 0 }]
+    }
 }
 
 /// The number that up to eight bytes give, low byte first.
@@ -200,11 +211,12 @@ pub fn replay(script: &[u8]) -> (String, bool) {
 /// The name, the reply, and a hash for each writable thing that was lent, and for a column
 /// of the list too, which "still keeps its content", as do the cells of a period.
 pub fn line(call: &Call, reading: &mut Reading) -> String {
-    let mut buffers = call.buffers();
-    let reply = match perform(call, reading, &mut buffers) {
+    let (mut buffers, mut replies) = (call.buffers(), call.replies());
+    let reply = match perform(call, reading, &mut buffers, &mut replies) {
         Ok(reply) => reply,
         Err(refusal) => refusal.to_string(),
     };
+    let replies: Vec<u8> = replies.into_iter().flat_map(u64::to_le_bytes).collect();
     let [first, second, third] = &buffers;
     let held = reading_bytes(reading);
     let hashed: Vec<&Vec<u8>> = match call.operation {
@@ -219,6 +231,7 @@ pub fn line(call: &Call, reading: &mut Reading) -> String {
         Operation::Synthesize | Operation::ReadLine => vec![second],
         Operation::Trace => vec![first, second, third],
         Operation::PushAll => vec![&held, first],
+        Operation::LookUpBatch => vec![third, &replies],
     };
     let mut line = format!("{} {}", OPERATIONS[call.operation as usize].1, reply);
     for bytes in hashed {
@@ -232,12 +245,14 @@ fn perform(
     call: &Call,
     reading: &mut Reading,
     [first, second, third]: &mut [Vec<u8>; 3],
+    replies: &mut [u64],
 ) -> Result<String, Refusal> {
     let ok = |_: ()| String::from("ok");
+    let who = u64::from(call.number);
     match call.operation {
-        Operation::Open => {
-            let (opened, outcome) = calls::open(call.number);
-            *reading = opened;
+        Operation::Open | Operation::Forge => {
+            let (held, outcome) = replaced(call, first);
+            *reading = held;
             outcome.map(ok)
         }
         Operation::Push => calls::push(reading, call.number).map(ok),
@@ -248,13 +263,7 @@ fn perform(
             calls::generate(call.number, first, second, u32::from(call.l), third).map(ok)
         }
         Operation::Synthesize => calls::synthesize(first, second).map(ok),
-        Operation::LookUp => {
-            calls::look_up(first, second, u64::from(call.number), third).map(served_word)
-        }
-        Operation::Forge => {
-            *reading = reading_from(first);
-            Ok(String::from("ok"))
-        }
+        Operation::LookUp => calls::look_up(first, second, who, third).map(served_word),
         Operation::Trace => {
             let (outcome, filled) = traced(call, reading, first, second);
             *third = filled;
@@ -265,6 +274,17 @@ fn perform(
         Operation::Merge => calls::merge(first, second, third).map(ok),
         Operation::PeriodLength => calls::period_length(first).map(length_word),
         Operation::Enumerate | Operation::Tally => counted(call, first).map(ok),
+        Operation::LookUpBatch => {
+            calls::look_up_batch(first, second, who, third, replies).map(counts_word)
+        }
+    }
+}
+
+/// The reading that is held after an opening or a forging.
+fn replaced(call: &Call, bytes: &[u8]) -> (Reading, Result<(), Refusal>) {
+    match call.operation {
+        Operation::Open => calls::open(call.number),
+        _ => (reading_from(bytes), Ok(())),
     }
 }
 
@@ -320,6 +340,10 @@ fn verdict_word(verdict: Verdict) -> String {
         Verdict::Yes => String::from("yes"),
         Verdict::No(place) => format!("no {place}"),
     }
+}
+
+fn counts_word(Counts { found, made, refused }: Counts) -> String {
+    format!("found {found} made {made} refused {refused}")
 }
 
 fn served_word(served: Served) -> String {

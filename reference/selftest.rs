@@ -1,5 +1,8 @@
 //! The self-test: one line for each group, with the number of checks.
 
+use crate::bundlecases;
+use crate::bundlechecks;
+use crate::bundles;
 use crate::calls::*;
 use crate::cases;
 use crate::catalogues;
@@ -42,7 +45,7 @@ use crate::steps::{self, coefficient, length, Pair};
 use crate::typed;
 
 /// The groups in the order in which they run.
-const GROUPS: [(&str, fn(&mut Group)); 67] = [
+const GROUPS: [(&str, fn(&mut Group)); 73] = [
     ("cases 1 to 15", cases::cases),
     ("tables 1 and 2 of 000", cases::tables),
     ("sheets and their text by hand", cases::sheets_by_hand),
@@ -110,6 +113,12 @@ const GROUPS: [(&str, fn(&mut Group)); 67] = [
     ("census, random calls by their bytes", censuschecks::by_bytes),
     ("census printed, by hand", censuslines::by_hand),
     ("census printed, random lines", censuslines::random_lines),
+    ("bundles by hand", bundlecases::by_hand),
+    ("bundles, each slip as if alone", bundlechecks::singly),
+    ("bundles, the shelf cut after every record", bundlechecks::cut),
+    ("bundles, numbers hidden from visitors", bundlechecks::hidden),
+    ("bundles put together, parted and turned", bundlechecks::related),
+    ("bundles, fetched records", bundlechecks::fetched),
 ];
 
 /// True if every group passes.
@@ -377,8 +386,9 @@ fn scripts(group: &mut Group) {
     scripts_of_merges(group);
     scripts_of_periods(group);
     scripts_of_numbers(group);
+    scripts_of_bundles(group);
     group.check(replay(&[]) == (String::new(), true), || String::from("no calls"));
-    group.check(replay(&[16; 16]).0 == "script unknown 16\n", || String::from("unknown"));
+    group.check(replay(&[17; 16]).0 == "script unknown 17\n", || String::from("unknown"));
     listings(group);
 }
 
@@ -483,6 +493,26 @@ fn scripts_of_numbers(group: &mut Group) {
     }
     let size = numbers::numbers(18, 600).len();
     group.check(size < 60_000, || format!("{size} bytes of numbers"));
+}
+
+/// Every script of bundles has those by hand in front; it is below 12 million bytes with the count
+/// of tests/expectations.sh.
+fn scripts_of_bundles(group: &mut Group) {
+    let by_hand = bundles::bundles(0, 0);
+    let lines = replay(&by_hand).0.lines().count();
+    group.check(lines == 1024, || format!("{lines} bundles by hand"));
+    for seed in 0..4 {
+        let script = bundles::bundles(seed, 12);
+        group.check(script == bundles::bundles(seed, 12), || format!("bundles {seed}: bytes"));
+        let random = bundles::rounds(seed, 12);
+        let right = script == [&by_hand[..], &random].concat();
+        group.check(right, || format!("bundles {seed}: by hand, then random"));
+        let (text, whole) = replay(&random);
+        let named = text.lines().all(|line| line.starts_with("look_up_batch "));
+        group.check(whole && named && text.lines().count() >= 12, || text.clone());
+    }
+    let size = bundles::bundles(19, 400).len();
+    group.check(size < 12_000_000, || format!("{size} bytes of bundles"));
 }
 
 /// The listing of random slips and of pieces of every size.

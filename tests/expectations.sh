@@ -10,8 +10,8 @@ output=$2
 [ "$output" != --store ] || output=$(dirname "$0")/../crates
 mkdir -p "$output/replay" "$output/listing" "$output/working" "$output/ask" "$output/census"
 
-# Lists of calls, candidates, catalogues, typed lines, merges, periods, sequences by number and tallies: each operation
-# and each refusal that it has.
+# Lists of calls, candidates, catalogues, typed lines, merges, periods, sequences by number and tallies, bundles: each
+# operation and each refusal that it has.
 {
     "$reference" calls 11 700
     "$reference" candidates 12 1000
@@ -20,6 +20,7 @@ mkdir -p "$output/replay" "$output/listing" "$output/working" "$output/ask" "$ou
     "$reference" merges 16 1500
     "$reference" periods 17 600
     "$reference" numbers 18 600
+    "$reference" bundles 19 400
 } >"$output/replay/stdin"
 "$reference" replay <"$output/replay/stdin" >"$output/replay/stdout"
 

@@ -1,8 +1,8 @@
 /* The C interface from C: every refusal with its place and order, every verdict, found and made, what editors and visitors see, every byte
- * at every place of a typed line, merged queries, periods, the census, buffers of every wrong length, NULL for every slice, and that a
- * refusal changes no byte. Expected values are the scope's cases or follow from its words; guard bytes stand around every buffer. It is built
+ * at every place of a typed line, merged queries, periods, the census, batches, buffers of every wrong length, NULL for every slice, and that
+ * a refusal changes no byte. Expected values are the scope's cases or follow from its words; guard bytes stand around every buffer. It is built
  * as C++ too.
- * Usage: host_test [whole]; without whole the census makes one in sixteen of the calls that take longest under valgrind. */
+ * Usage: host_test [whole]; without whole the census and batches make some of the calls that take longest under valgrind. */
 #include "diverthrone.h"
 
 #include <stdio.h>
@@ -1949,7 +1949,613 @@ static void census_at_odd_addresses(void) {
     }
 }
 
+/* ---- batches ---- */
+
+enum { BATCH = DIVERTHRONE_MAX_QUERIES, LENT = BATCH + 3, LENT_NUMBERS = 8 * LENT };
+
+/* What a batch is lent. Guards stand around the two buffers that it writes; `due_records` and `due_replies` are what they should hold after
+ * the call, with the guards. */
+static struct {
+    uint8_t queries[LENT * QUERY], records[GUARD + LENT * RECORD + GUARD], due_records[GUARD + LENT * RECORD + GUARD];
+    uint64_t replies[GUARD + LENT_NUMBERS + GUARD], due_replies[GUARD + LENT_NUMBERS + GUARD];
+    const uint8_t *catalogue;
+    size_t queries_len, catalogue_len, records_len, replies_len;
+} batch;
+
+static uint8_t *query_at(size_t i) { return batch.queries + i * QUERY; }
+
+static uint8_t *due_record(size_t i) { return batch.due_records + GUARD + i * RECORD; }
+
+static size_t guarded_bytes(size_t len) { return GUARD + len + GUARD; }
+
+/* Lengths are in bytes, but of the replies in numbers. Each byte lent for writing is `fill`, also in the numbers. */
+static void lend_lengths(size_t queries_len, size_t records_len, size_t replies_len, int fill) {
+    batch.queries_len = queries_len, batch.records_len = records_len, batch.replies_len = replies_len;
+    memset(batch.due_records, 0xA5, guarded_bytes(records_len));
+    memset(batch.due_records + GUARD, fill, records_len);
+    memcpy(batch.records, batch.due_records, guarded_bytes(records_len));
+    memset(batch.due_replies, 0xA5, 8 * guarded_bytes(replies_len));
+    memset(batch.due_replies + GUARD, fill, 8 * replies_len);
+    memcpy(batch.replies, batch.due_replies, 8 * guarded_bytes(replies_len));
+}
+
+static void lend_batch(size_t n, int fill) { lend_lengths(n * QUERY, n * RECORD, n, fill); }
+
+/* The reply, what is only read, and both written buffers with what is around them. */
+static void batch_replies(uint64_t who, uint64_t reply, const char *what) {
+    static uint8_t queries[LENT * QUERY], catalogue[LENT * RECORD];
+    size_t some = batch.catalogue_len < sizeof catalogue ? batch.catalogue_len : sizeof catalogue;
+    called = "look_up_batch";
+    memcpy(queries, batch.queries, batch.queries_len), memcpy(catalogue, batch.catalogue, some);
+    uint64_t got = diverthrone_look_up_batch(batch.queries, batch.queries_len, batch.catalogue, batch.catalogue_len, who,
+                                             batch.records + GUARD, batch.records_len, batch.replies + GUARD, batch.replies_len);
+    check(got == reply, what);
+    check(memcmp(batch.records, batch.due_records, guarded_bytes(batch.records_len)) == 0, what);
+    check(memcmp(batch.replies, batch.due_replies, 8 * guarded_bytes(batch.replies_len)) == 0, what);
+    check(memcmp(queries, batch.queries, batch.queries_len) == 0, "look_up_batch leaves the queries");
+    check(memcmp(catalogue, batch.catalogue, some) == 0, "look_up_batch leaves the catalogue");
+}
+
+static uint64_t counted(uint64_t found, uint64_t made, uint64_t refusals) { return 256 * (found + 256 * made + 65536 * refusals); }
+
+/* A record with its query, number by number. */
+struct entry {
+    unsigned m, n, terms[6], l, a[4], b[6], number;
+};
+
+static void write_entry(uint8_t *at, const struct entry *e) {
+    memset(at, 0, RECORD);
+    put(at, 0, e->m), put(at, 1, e->n);
+    put(at + DIVERTHRONE_LENGTH_PLACE, 0, e->l), put(at + DIVERTHRONE_NUMBER_PLACE, 0, e->number);
+    for (size_t i = 0; i < 6; i++) put(at, 2 + i, e->terms[i]), put(at + DIVERTHRONE_B_PLACE, i, e->b[i]);
+    for (size_t i = 0; i < 4; i++) put(at + DIVERTHRONE_A_PLACE, i, e->a[i]);
+}
+
+/* Nothing here comes from another call: a catalogue of case 9 alone; then case 9 is found, case 3 made, a term refused, case 9 found again,
+ * and a modulus refused. */
+static void batch_by_hand(void) {
+    static const struct entry on_it = {7, 6, {1, 1, 2, 3, 5, 1}, 2, {1, 6, 6}, {1, 0}, 0x0201},
+                              case_3 = {9, 5, {6, 3, 1, 5, 6}, 3, {1, 4, 7, 1}, {6, 0, 1}, 0};
+    static const uint64_t replies[] = {256, 0, 3 + 256 * 4, 256, 1};
+    uint8_t one[RECORD], seen[RECORD], made[RECORD];
+    write_entry(one, &on_it), write_entry(made, &case_3);
+    for (int editor = 0; editor < 2; editor++) {
+        batch.catalogue = one, batch.catalogue_len = RECORD;
+        lend_batch(5, 0x5A);
+        memcpy(seen, one, RECORD);
+        if (!editor) memset(seen + 776, 0, 2);
+        for (size_t i = 0; i < 5; i++) memcpy(query_at(i), i == 0 || i == 3 ? one : made, QUERY);
+        query_at(2)[12] = 9, query_at(4)[0] = 1;
+        memcpy(due_record(0), seen, RECORD), memcpy(due_record(1), made, RECORD), memset(due_record(2), 0, RECORD);
+        memcpy(due_record(3), seen, RECORD), memset(due_record(4), 0, RECORD);
+        memcpy(batch.due_replies + GUARD, replies, sizeof replies);
+        batch_replies(editor ? 1 : 2, UINT64_C(33620480), "2 found, 1 made, 2 refused");
+    }
+    check(diverthrone_batch_found(33620480) == 2 && diverthrone_batch_made(33620480) == 1, "2 found and 1 made");
+    check(diverthrone_batch_refused(33620480) == 2, "2 refused");
+}
+
+/* The catalogue that most batches are looked up in, by place. But for the first and case 3 the good records have a = 1 and b = S, so that no
+ * record that is made has their bytes. Then there is one of 128 terms, at the last place. */
+static const struct entry entries[] = {
+    {7, 6, {1, 1, 2, 3, 5, 1}, 2, {1, 6, 6}, {1, 0}, 7},
+    {27, 5, {6, 3, 1, 5, 6}, 5, {1}, {6, 3, 1, 5, 6}, 65535},     /* case 3's terms modulo 27 */
+    {9, 5, {6, 3, 1, 5, 6}, 3, {1, 4, 7, 1}, {6, 0, 1}, 0x1234},  /* case 3 */
+    {9, 5, {6, 3, 1, 5, 6}, 5, {1}, {6, 3, 1, 5, 6}, 9},          /* and once more */
+    {5, 2, {1, 2}, 1, {1, 2}, {1}, 255},                          /* fails its test */
+    {5, 2, {1, 2}, 1, {1, 3}, {1}, 256},                          /* good, behind the one that fails */
+    {5, 2, {1, 3}, 129, {1, 2}, {1}, 1},                          /* too long */
+    {5, 2, {1, 4}, 1, {1, 6}, {1}, 2},                            /* a_1 is not below m, but fits modulo m */
+    {5, 2, {2, 1}, 2, {2}, {4, 2}, 0},                            /* a_0 is 2 */
+    {1, 1, {0}, 0, {1}, {0}, 3},                                  /* of queries that are refused */
+    {9, 2, {6, 9}, 2, {1}, {6}, 4},
+    {9, 2, {6, 3, 1}, 2, {1}, {6, 3}, 5},
+    {2, 0, {0}, 0, {1}, {0}, 1}};
+
+enum { ENTRIES = sizeof entries / sizeof *entries, SHELF = ENTRIES + 1 };
+
+static uint8_t shelf[SHELF * RECORD];
+
+/* Queries with their replies. The terms past the first six are `rest` up to the count; the last cell is `last` if that is not 0. */
+static const struct kind {
+    unsigned m, n, terms[6], rest, last;
+    uint64_t reply;
+    const char *what;
+} kinds[] = {{7, 6, {1, 1, 2, 3, 5, 1}, 0, 0, 256 * 1, "found at the first place"},
+             {27, 5, {6, 3, 1, 5, 6}, 0, 0, 256 * 2, "found by its modulus"},
+             {9, 5, {6, 3, 1, 5, 6}, 0, 0, 256 * 3, "found at the first of two places"},
+             {2, 0, {0}, 0, 0, 256 * 13, "no terms, found"},
+             {4095, 128, {0x0E0D, 0x0E0D, 0x0E0D, 0x0E0D, 0x0E0D, 0x0E0D}, 0x0E0D, 0, 256 * 14, "128 terms, found at the last place"},
+             {11, 5, {6, 3, 1, 5, 6}, 0, 0, 0, "made, with terms that are there by another modulus"},
+             {9, 4, {6, 3, 1, 5}, 0, 0, 0, "made, with four terms that are there"},
+             {9, 5, {6, 3, 1, 5, 7}, 0, 0, 0, "made, with another last term"},
+             {3, 0, {0}, 0, 0, 0, "no terms, made"},
+             {2, 128, {1, 1, 1, 1, 1, 1}, 1, 0, 0, "128 terms, made"},
+             {0, 5, {6, 3, 1, 5, 6}, 0, 0, 1, "modulus 0"},
+             {1, 1, {0}, 0, 0, 1, "modulus 1, and there is a record of it"},
+             {4096, 5, {6, 3, 1, 5, 6}, 0, 0, 1, "modulus 4,096"},
+             {65535, 0, {0}, 0, 0, 1, "modulus 65,535"},
+             {9, 129, {6, 3, 1, 5, 6}, 0, 0, 2, "129 terms"},
+             {9, 65535, {9}, 0, 0, 2, "65,535 terms"},
+             {9, 5, {9, 3, 1, 5, 9}, 0, 0, 3, "the first term is m"},
+             {9, 2, {6, 9}, 0, 0, 3 + 256 * 1, "the second term is m, and there is a record of it"},
+             {9, 128, {8, 8, 8, 8, 8, 8}, 8, 9, 3 + 256 * 127, "the last of 128 terms is m"},
+             {9, 2, {6, 3, 1}, 0, 0, 4, "a term past the count, and there is a record of it"},
+             {9, 5, {6, 3, 1, 5, 6}, 0, 65535, 4, "the last cell past the count"},
+             {5, 2, {1, 2}, 0, 0, 24, "the record found fails its test, and a good one is behind it"},
+             {5, 2, {1, 3}, 0, 0, 24, "the record found is too long"},
+             {5, 2, {1, 4}, 0, 0, 24, "the record found has a coefficient that is not below m"},
+             {5, 2, {2, 1}, 0, 0, 24, "the record found has 2 for a_0"}};
+
+enum { KINDS = sizeof kinds / sizeof *kinds };
+
+static uint8_t kind_queries[KINDS][QUERY];
+
+/* What each kind gets for its record, a visitor and an editor. */
+static uint8_t kind_parts[2][KINDS][RECORD];
+
+static void write_kind(uint8_t *at, const struct kind *k) {
+    memset(at, 0, QUERY);
+    put(at, 0, k->m), put(at, 1, k->n);
+    for (size_t i = 0; i < 128; i++) put(at, 2 + i, i < 6 ? k->terms[i] : i < k->n ? k->rest : 0);
+    if (k->last != 0) put(at, 2 + 127, k->last);
+}
+
+/* Zeros where it is refused, the record at its place where it is found, and what synthesize makes otherwise. */
+static void write_part(uint8_t *at, size_t kind, int editor) {
+    uint64_t reply = kinds[kind].reply;
+    memset(at, 0, RECORD);
+    if (reply == 0) check(diverthrone_synthesize(kind_queries[kind], QUERY, at, RECORD) == 0, kinds[kind].what);
+    if (reply % 256 != 0 || reply == 0) return;
+    memcpy(at, shelf + (reply / 256 - 1) * RECORD, RECORD);
+    if (!editor) memset(at + DIVERTHRONE_NUMBER_PLACE, 0, 2);
+}
+
+/* Number i of the catalogue, in place of the one in its entry, if `numbered`. */
+static void make_shelf(int numbered) {
+    uint8_t *last = shelf + ENTRIES * RECORD;
+    for (size_t i = 0; i < ENTRIES; i++) write_entry(shelf + i * RECORD, &entries[i]);
+    memset(last, 0, RECORD);
+    write_kind(last, &kinds[4]);
+    put(last + DIVERTHRONE_LENGTH_PLACE, 0, 128), put(last + DIVERTHRONE_A_PLACE, 0, 1), put(last + DIVERTHRONE_NUMBER_PLACE, 0, 0x0100);
+    for (size_t i = 0; i < 128; i++) put(last + DIVERTHRONE_B_PLACE, i, 0x0E0D);
+    for (size_t i = 0; numbered && i < SHELF; i++) put(shelf + i * RECORD + DIVERTHRONE_NUMBER_PLACE, 0, (unsigned)(40000 - 77 * i));
+}
+
+/* Each kind gets by itself what is due to it in a batch, but for the zeros. */
+static void kinds_alone(void) {
+    for (size_t k = 0; k < KINDS; k++)
+        for (int editor = 0; editor < 2; editor++) {
+            uint8_t record[RECORD] = {0};
+            called = "look_up";
+            uint64_t reply = diverthrone_look_up(kind_queries[k], QUERY, shelf, sizeof shelf, editor ? 1 : 2, record, RECORD);
+            check(reply == kinds[k].reply && memcmp(record, kind_parts[editor][k], RECORD) == 0, kinds[k].what);
+        }
+}
+
+static void make_kinds(int numbered) {
+    make_shelf(numbered);
+    batch.catalogue = shelf, batch.catalogue_len = sizeof shelf;
+    for (size_t k = 0; k < KINDS; k++) {
+        write_kind(kind_queries[k], &kinds[k]);
+        for (int editor = 0; editor < 2; editor++) write_part(kind_parts[editor][k], k, editor);
+    }
+    kinds_alone();
+}
+
+/* A batch of these kinds; what was lent for writing has `fill` in each byte. */
+static void batch_filled(const unsigned *of, size_t n, uint64_t who, int fill, const char *what) {
+    uint64_t found = 0, made = 0, refusals = 0;
+    lend_batch(n, fill);
+    for (size_t i = 0; i < n; i++) {
+        uint64_t reply = kinds[of[i]].reply;
+        memcpy(query_at(i), kind_queries[of[i]], QUERY);
+        memcpy(due_record(i), kind_parts[who == 1][of[i]], RECORD);
+        batch.due_replies[GUARD + i] = reply;
+        made += reply == 0, refusals += reply % 256 != 0, found += reply != 0 && reply % 256 == 0;
+    }
+    batch_replies(who, counted(found, made, refusals), what);
+}
+
+static void batch_of(const unsigned *of, size_t n, uint64_t who, const char *what) { batch_filled(of, n, who, 0x5A, what); }
+
+/* Each kind at each place of 16, among queries that are all found, made, or refused. */
+static void kinds_at_places(void) {
+    static const unsigned others[] = {2, 8, 19};
+    unsigned of[BATCH];
+    for (unsigned k = 0; k < KINDS; k++)
+        for (unsigned place = 0; place < BATCH; place++)
+            for (unsigned other = 0; other < 3; other++) {
+                if (every > 1 && (k + place) % 3 != other) continue;
+                for (size_t i = 0; i < BATCH; i++) of[i] = i == place ? k : others[other];
+                batch_of(of, BATCH, place % 2, kinds[k].what);
+            }
+}
+
+/* Up to 16 times the same query; and each kind before and behind each. */
+static void equal_queries(void) {
+    unsigned of[BATCH];
+    for (unsigned k = 0; k < KINDS; k++) {
+        for (size_t i = 0; i < BATCH; i++) of[i] = k;
+        batch_of(of, 2, 1, kinds[k].what), batch_of(of, BATCH, 1, kinds[k].what), batch_of(of, BATCH, 0, kinds[k].what);
+        for (unsigned other = 0; other < KINDS; other++) {
+            of[0] = k, of[1] = other;
+            batch_of(of, 2, other % 2, kinds[k].what);
+            of[2] = k;
+            batch_of(of, 3, k % 2, kinds[k].what);
+        }
+    }
+}
+
+/* 0 to 16 queries, each kind among them, with an editor and a visitor; an empty batch with every catalogue. */
+static void counts_of_queries(void) {
+    unsigned of[BATCH];
+    for (unsigned n = 0; n <= BATCH; n++)
+        for (unsigned from = 0; from < KINDS; from += 4) {
+            for (unsigned i = 0; i < n; i++) of[i] = (from + 7 * i) % KINDS;
+            batch_of(of, n, 1, "so many queries, for an editor"), batch_of(of, n, 0, "so many queries, for a visitor");
+        }
+    for (size_t i = 0; i <= SHELF; i++) {
+        batch.catalogue_len = i * RECORD;
+        batch_of(of, 0, 1, "no query");
+    }
+}
+
+/* Who asks changes no reply; the numbers in the records change nothing for a visitor, whose parts are those of the first catalogue. */
+static void batches_for_all(void) {
+    static uint8_t first[KINDS][RECORD];
+    unsigned of[BATCH];
+    memcpy(first, kind_parts[0], sizeof first);
+    for (int numbered = 0; numbered < 2; numbered++) {
+        make_kinds(numbered);
+        check(memcmp(first, kind_parts[0], sizeof first) == 0, "a visitor's parts do not depend on the numbers");
+        for (size_t j = 0; j < ASKERS; j++)
+            for (unsigned from = 0; from < KINDS; from += 5) {
+                for (unsigned i = 0; i < BATCH; i++) of[i] = (from + i) % KINDS;
+                batch_of(of, BATCH, askers[j], "1 sees the numbers, any other 0");
+            }
+    }
+    make_kinds(0);
+}
+
+/* What the two buffers held does not matter; with 0 a reply would be one of a record made, with 255 none that there is. */
+static void batches_in_any_room(void) {
+    unsigned of[KINDS];
+    for (unsigned i = 0; i < KINDS; i++) of[i] = i;
+    const int step = every > 1 ? 17 : 1;
+    for (int fill = 0; fill < 256; fill += step) {
+        batch_filled(of, BATCH, fill % 2, fill, "whatever was lent, the first kinds");
+        batch_filled(of + KINDS - BATCH, BATCH, fill % 2, fill, "whatever was lent, the last kinds");
+    }
+}
+
+/* Any kinds, any number of them, anyone. */
+static void random_batches(void) {
+    unsigned of[BATCH];
+    for (unsigned round = 0; round < 2000 / every; round++) {
+        uint64_t bits = some_bits();
+        size_t n = bits % (BATCH + 1);
+        for (size_t i = 0; i < n; i++) of[i] = (unsigned)(some_bits() >> 32) % KINDS;
+        batch_of(of, n, round % 2 ? 1 : askers[bits >> 32 & 7], "random kinds");
+    }
+}
+
+/* In a catalogue of one record or more the kinds of later ones are made. */
+static void shorter_catalogues(void) {
+    static const unsigned of[] = {0, 1, 2, 3, 4, 2};
+    for (size_t records = 0; records <= SHELF; records++) {
+        uint64_t found = 0;
+        lend_batch(6, 0x5A);
+        batch.catalogue_len = records * RECORD;
+        for (size_t i = 0; i < 6; i++) {
+            int there = kinds[of[i]].reply <= 256 * records;
+            memcpy(query_at(i), kind_queries[of[i]], QUERY);
+            if (there) memcpy(due_record(i), kind_parts[0][of[i]], RECORD);
+            if (!there) check(diverthrone_synthesize(query_at(i), QUERY, due_record(i), RECORD) == 0, "the record that is made");
+            batch.due_replies[GUARD + i] = there ? kinds[of[i]].reply : 0;
+            found += there;
+        }
+        batch_replies(0, counted(found, 6 - found, 0), "so many records");
+    }
+    batch.catalogue_len = sizeof shelf;
+}
+
+/* 3 at every place of 128 terms, where those behind it are wrong too. */
+static void wrong_terms_in_batches(void) {
+    for (unsigned from = 0; from < 128; from += BATCH) {
+        lend_batch(BATCH, 0x5A);
+        for (unsigned i = 0; i < BATCH; i++) {
+            write_kind(query_at(i), &kinds[9]);
+            for (unsigned at = from + i; at < 128; at++) put(query_at(i), 2 + at, at % 2 ? 2 : 65535);
+            memset(due_record(i), 0, RECORD);
+            batch.due_replies[GUARD + i] = 3 + 256 * (from + i);
+        }
+        batch_replies(1, counted(0, 0, BATCH), "3 carries its place");
+    }
+}
+
+/* Each malformed candidate of case 3 as the record found, and one that is good behind it. */
+static void malformed_in_batches(void) {
+    static uint8_t two[2 * RECORD];
+    batch.catalogue = two, batch.catalogue_len = sizeof two;
+    write_entry(two + RECORD, &entries[2]);
+    for (size_t i = 0; i < sizeof flaws / sizeof *flaws; i++) {
+        memset(two, 0, RECORD);
+        memcpy(two, kind_queries[2], QUERY);
+        put(two + DIVERTHRONE_LENGTH_PLACE, 0, flaws[i].l);
+        for (size_t j = 0; j < 5; j++) put(two + DIVERTHRONE_A_PLACE, j, flaws[i].a[j]);
+        for (size_t j = 0; j < 4; j++) put(two + DIVERTHRONE_B_PLACE, j, flaws[i].b[j]);
+        lend_batch(3, 0x5A);
+        for (size_t j = 0; j < 3; j++) {
+            memcpy(query_at(j), kind_queries[j == 1 ? 5 : 2], QUERY);
+            memcpy(due_record(j), kind_parts[0][j == 1 ? 5 : 21], RECORD);
+            batch.due_replies[GUARD + j] = j == 1 ? 0 : 24;
+        }
+        batch_replies(i % 2, counted(0, 1, 2), flaws[i].what);
+    }
+    batch.catalogue = shelf, batch.catalogue_len = sizeof shelf;
+}
+
+/* Query j of 16 that have all terms but the last two in common, and its record: a = 1 and b = S. */
+static void write_alike(uint8_t *record, unsigned j) {
+    memset(record, 0, RECORD);
+    put(record, 0, 4095), put(record, 1, 128);
+    put(record + DIVERTHRONE_LENGTH_PLACE, 0, 128), put(record + DIVERTHRONE_A_PLACE, 0, 1);
+    put(record + DIVERTHRONE_NUMBER_PLACE, 0, 600 + j);
+    for (unsigned i = 0; i < 128; i++) {
+        unsigned term = (37 * i * i + 300 * i + 259 + (i < 126 ? 0 : j)) % 4095;
+        put(record, 2 + i, term), put(record + DIVERTHRONE_B_PLACE, i, term);
+    }
+}
+
+/* Before the records of these queries, last first, stand one that has nothing but the first four terms (bytes 4 to 11) in common with query
+ * 0, and for each byte one that differs from query 0 there alone. */
+static void nearly_found(void) {
+    enum { NEAR = 1 + QUERY };
+    static uint8_t near_ones[(NEAR + BATCH) * RECORD];
+    for (size_t i = 0; i < NEAR; i++) write_alike(near_ones + i * RECORD, 0);
+    for (size_t i = 0; i < QUERY; i++)
+        if (i < 4 || i >= 12) near_ones[i] ^= 0x55;
+    for (size_t i = 0; i < QUERY; i++) near_ones[(1 + i) * RECORD + i] ^= 1;
+    for (unsigned j = 0; j < BATCH; j++) write_alike(near_ones + (NEAR + BATCH - 1 - j) * RECORD, j);
+    batch.catalogue = near_ones, batch.catalogue_len = sizeof near_ones;
+    lend_batch(BATCH, 0x5A);
+    for (unsigned j = 0; j < BATCH; j++) {
+        write_alike(due_record(j), j);
+        memcpy(query_at(j), due_record(j), QUERY);
+        batch.due_replies[GUARD + j] = 256 * (NEAR + BATCH - j);
+    }
+    batch_replies(1, counted(BATCH, 0, 0), "found by all of 260 bytes");
+    batch.catalogue_len = NEAR * RECORD;
+    lend_batch(2, 0x5A);
+    for (unsigned j = 0; j < 2; j++) {
+        check(diverthrone_synthesize(query_at(j), QUERY, due_record(j), RECORD) == 0, "the record of a query that is nearly found");
+        batch.due_replies[GUARD + j] = 0;
+    }
+    batch_replies(1, counted(0, 2, 0), "nearly found, and made");
+    batch.catalogue = shelf, batch.catalogue_len = sizeof shelf;
+}
+
+/* One term t modulo 4,095 at place t, for each t: queries that a table of few places takes for one another are all found. */
+static void many_first_terms(void) {
+    enum { TERMS = 4095 };
+    static uint8_t all[TERMS * RECORD];
+    for (unsigned t = 0; t < TERMS; t++) {
+        const struct entry e = {TERMS, 1, {t}, 1, {1}, {t}, 65535 - t};
+        write_entry(all + t * RECORD, &e);
+    }
+    batch.catalogue = all, batch.catalogue_len = sizeof all;
+    for (unsigned from = 0; from < TERMS; from += BATCH * every) {
+        lend_batch(BATCH, 0x5A);
+        for (unsigned i = 0; i < BATCH; i++) {
+            unsigned t = (from + 1021 * i) % TERMS;
+            memcpy(query_at(i), all + t * RECORD, QUERY);
+            memcpy(due_record(i), all + t * RECORD, RECORD);
+            batch.due_replies[GUARD + i] = 256 * (1 + t);
+        }
+        batch_replies(1, counted(BATCH, 0, 0), "each term at its place");
+    }
+    batch.catalogue = shelf, batch.catalogue_len = sizeof shelf;
+}
+
+/* Case 3 as the last of so many records, which are zero but for it. */
+static void last_of(uint8_t *records, size_t n) {
+    memcpy(records + (n - 1) * RECORD, shelf + 2 * RECORD, RECORD);
+    batch.catalogue = records, batch.catalogue_len = n * RECORD;
+    lend_batch(3, 0x5A);
+    for (size_t i = 0; i < 3; i++) {
+        memcpy(query_at(i), kind_queries[i == 1 ? 5 : 2], QUERY);
+        memcpy(due_record(i), kind_parts[1][i == 1 ? 5 : 2], RECORD);
+        batch.due_replies[GUARD + i] = i == 1 ? 0 : 256 * n;
+    }
+    batch_replies(1, counted(2, 1, 0), "the last of many records");
+    memset(records + (n - 1) * RECORD, 0, RECORD);
+    batch.catalogue = shelf, batch.catalogue_len = sizeof shelf;
+}
+
+/* Places of more than 8 bits, 776 * 389 bytes as 388 records, and places of more than 16 bits. */
+static void batches_in_many_records(void) {
+    static const size_t few[] = {1, 15, 255, 256, 257, 388};
+    const size_t very_many = 65540;
+    uint8_t *records = (uint8_t *)calloc(very_many, RECORD);
+    if (records == NULL) {
+        check(0, "no memory for many records");
+        return;
+    }
+    for (size_t i = 0; i < sizeof few / sizeof *few; i++) last_of(records, few[i]);
+    if (every == 1) last_of(records, 65535), last_of(records, 65536), last_of(records, very_many);
+    free(records);
+}
+
+/* The refusal of the whole call in the order of the header. */
+static unsigned batch_refusal(size_t queries_len, size_t catalogue_len, size_t records_len, size_t replies_len) {
+    size_t n = queries_len / QUERY;
+    if (queries_len != n * QUERY || records_len != n * RECORD || replies_len != n) return 5;
+    if (n > BATCH) return 34;
+    return catalogue_len % RECORD == 0 ? 0 : 23;
+}
+
+/* The queries are of each kind in turn, so that most have a refusal of their own, which comes behind those of the call. */
+static void lend_kinds(void) {
+    for (size_t i = 0; i < LENT; i++) memcpy(query_at(i), kind_queries[(5 * i + 3) % KINDS], QUERY);
+}
+
+/* Lengths that are refused leave both buffers as they were. */
+static void batch_refused(size_t queries_len, size_t catalogue_len, size_t records_len, size_t replies_len) {
+    char what[128];
+    unsigned refusal = batch_refusal(queries_len, catalogue_len, records_len, replies_len);
+    if (refusal == 0) return;
+    snprintf(what, sizeof what, "%u for lengths of %lu, %lu, %lu, %lu", refusal, (unsigned long)queries_len, (unsigned long)catalogue_len,
+             (unsigned long)records_len, (unsigned long)replies_len);
+    batch.catalogue_len = catalogue_len;
+    lend_lengths(queries_len, records_len, replies_len, 0x5A);
+    batch_replies(records_len % 2, refusal, what);
+}
+
+/* For 0 to 18 queries, lengths around each that fits, and such that would fit by another measure: each with each. */
+static void batch_lengths(void) {
+    static const size_t catalogues[] = {0, 778, 1, 776, 777, 779, 1552, 14 * 776, 14 * 778, 14 * 778 - 2};
+    unsigned tried = 0;
+    lend_kinds();
+    for (size_t n = 0; n <= 18; n++) {
+        const size_t q[] = {260 * n, 260 * n + 1, 260 * n + 2, 260 * n + 130, 260 * n + 259};
+        const size_t fit = 778 * n, less = n > 0 ? fit - 778 : 0;
+        const size_t r[] = {fit, fit + 1, fit + 2, fit + 777, fit + 778, less, less + 776, less + 777, 776 * n, 260 * n, n};
+        const size_t p[] = {n, n + 1, n > 0 ? n - 1 : 2, 0, 8 * n, 2 * n};
+        for (size_t i = 0; i < 5 * 11 * 6 * 10; i++)
+            if (tried++ % (every > 1 ? 19 : 1) == 0) batch_refused(q[i / 660], catalogues[i % 10], r[i / 60 % 11], p[i / 10 % 6]);
+    }
+    batch.catalogue_len = sizeof shelf;
+}
+
+/* By hand: every set of faults with the first refusal in order. */
+static void batch_order(void) {
+    static const struct {
+        unsigned refusal;
+        size_t queries, catalogue, records, replies;
+        const char *what;
+    } some[] = {{5, 519, 1556, 1556, 2, "5: the queries are a byte short"},
+                {5, 520, 1556, 1555, 2, "5: the records are a byte short"},
+                {5, 520, 1556, 1556, 1, "5: a reply is missing"},
+                {5, 520, 1556, 1556, 3, "5: a reply too many"},
+                {5, 520, 1556, 1556, 16, "5: the replies counted in bytes"},
+                {5, 0, 0, 0, 1, "5: a reply for no query"},
+                {5, 0, 0, 778, 0, "5: a record for no query"},
+                {5, 519, 1555, 1556, 2, "5 comes before 23, for the queries"},
+                {5, 520, 1555, 1555, 2, "5 comes before 23, for the records"},
+                {5, 520, 1555, 1556, 3, "5 comes before 23, for the replies"},
+                {5, 4421, 1556, 13226, 17, "5 comes before 34, for the queries"},
+                {5, 4420, 1556, 13225, 17, "5 comes before 34, for the records"},
+                {5, 4420, 1556, 13226, 16, "5 comes before 34, for the replies"},
+                {5, 4420, 1556, 12448, 16, "5: 17 queries with what 16 need"},
+                {5, 4160, 1556, 13226, 17, "5: 16 queries with what 17 need"},
+                {5, 4421, 1555, 13225, 16, "5 comes before 34 and 23, for all three"},
+                {34, 4420, 1556, 13226, 17, "34: 17 queries"},
+                {34, 4680, 1556, 14004, 18, "34: 18 queries"},
+                {34, 4420, 0, 13226, 17, "34: 17 queries, and no record"},
+                {34, 4420, 1555, 13226, 17, "34 comes before 23"},
+                {23, 4160, 1555, 12448, 16, "23: 16 queries"},
+                {23, 260, 776, 778, 1, "23: a catalogue of 776 bytes"},
+                {23, 260, 779, 778, 1, "23: a catalogue of 779 bytes"},
+                {23, 0, 1, 0, 0, "23: no query"}};
+    lend_kinds();
+    for (size_t i = 0; i < sizeof some / sizeof *some; i++)
+        for (uint64_t who = 0; who < 2; who++) {
+            batch.catalogue_len = some[i].catalogue;
+            lend_lengths(some[i].queries, some[i].records, some[i].replies, 0x5A);
+            batch_replies(who, some[i].refusal, some[i].what);
+        }
+    batch.catalogue_len = sizeof shelf;
+}
+
+/* 23 comes before each refusal that a query has of its own. */
+static void catalogue_before_queries(void) {
+    batch.catalogue_len = sizeof shelf - 1;
+    for (unsigned k = 0; k < KINDS; k++) {
+        lend_batch(BATCH, 0x5A);
+        for (size_t i = 0; i < BATCH; i++) memcpy(query_at(i), kind_queries[k], QUERY);
+        batch_replies(k % 2, 23, kinds[k].what);
+    }
+    batch.catalogue_len = sizeof shelf;
+}
+
+/* 34, and 5 where there is room for the low byte of their number. */
+static void so_many(size_t n, uint8_t *bytes, uint64_t *numbers) {
+    const size_t queries_len = n * QUERY, low = n % 256;
+    uint8_t *records = bytes + queries_len;
+    records[0] = 7, numbers[0] = 7;
+    uint64_t reply = diverthrone_look_up_batch(bytes, queries_len, shelf, sizeof shelf, 1, records, n * RECORD, numbers, n);
+    check(reply == 34 && records[0] == 7 && numbers[0] == 7, "34 for very many queries");
+    reply = diverthrone_look_up_batch(bytes, queries_len, shelf, sizeof shelf, 1, records, low * RECORD, numbers, low);
+    check(reply == (low == n ? 34 : 5) && records[0] == 7 && numbers[0] == 7, "5 for very many queries with less room");
+    records[0] = 0;
+}
+
+/* Many queries, also such that would be 16 or less if their number were cut to 8 or 16 bits. */
+static void far_too_many(void) {
+    static const size_t counts[] = {17, 32, 255, 256, 257, 272, 65536, 65537, 65552};
+    const size_t tried = every > 1 ? 6 : 9, most = counts[tried - 1];
+    uint8_t *bytes = (uint8_t *)calloc(most, QUERY + RECORD);
+    uint64_t *numbers = (uint64_t *)calloc(most, sizeof *numbers);
+    called = "look_up_batch";
+    check(bytes != NULL && numbers != NULL, "memory for very many queries");
+    for (size_t i = 0; bytes != NULL && numbers != NULL && i < tried; i++) so_many(counts[i], bytes, numbers);
+    free(bytes), free(numbers);
+}
+
+/* Queries, catalogue and records may begin at any address. */
+static void batch_at_odd_addresses(void) {
+    static const unsigned of[] = {2, 7, 14};
+    static uint8_t in[GUARD + QUERY + GUARD], on[GUARD + 3 * RECORD + GUARD], out[GUARD + RECORD + GUARD], as_due[sizeof out];
+    called = "look_up_batch, at an odd address";
+    for (size_t at = GUARD - 8; at <= GUARD + 8; at++)
+        for (size_t i = 0; i < 3; i++) {
+            const uint64_t replies[] = {counted(1, 0, 0), counted(0, 1, 0), counted(0, 0, 1)};
+            const size_t k = of[i];
+            uint8_t *catalogue = on + 2 * GUARD - at;
+            uint64_t reply = 5;
+            memset(out, 0xA5, sizeof out), memset(as_due, 0xA5, sizeof as_due);
+            memcpy(in + at, kind_queries[k], QUERY), memcpy(catalogue, shelf, 3 * RECORD), memcpy(as_due + at, kind_parts[1][k], RECORD);
+            uint64_t answer = diverthrone_look_up_batch(in + at, QUERY, catalogue, 3 * RECORD, 1, out + at, RECORD, &reply, 1);
+            check(answer == replies[i], kinds[k].what);
+            check(reply == kinds[k].reply && memcmp(out, as_due, sizeof out) == 0, kinds[k].what);
+        }
+}
+
+/* What is only read may overlap: the query of a record, where it stands. */
+static void query_in_the_catalogue(void) {
+    uint8_t record[RECORD];
+    uint64_t reply = 5;
+    called = "look_up_batch, of a query in the catalogue";
+    for (size_t i = 0; i < 3; i++) {
+        memset(record, 0x5A, RECORD);
+        uint64_t answer = diverthrone_look_up_batch(shelf + i * RECORD, QUERY, shelf, sizeof shelf, 1, record, RECORD, &reply, 1);
+        check(answer == counted(1, 0, 0), "its record is found");
+        check(reply == 256 * (1 + i) && memcmp(record, shelf + i * RECORD, RECORD) == 0, "at its place");
+    }
+}
+
 /* ---- NULL ---- */
+
+/* Each set of the four slices of a batch as NULL; the others are those of one query, which is found, and made where the catalogue is NULL. */
+static void no_batch_lent(void) {
+    static const size_t lens[] = {QUERY, sizeof shelf, RECORD, 1};
+    called = "look_up_batch, with NULL";
+    for (unsigned set = 0; set < 16; set++) {
+        size_t n[4];
+        for (size_t i = 0; i < 4; i++) n[i] = set >> i & 1 ? 0 : lens[i];
+        const uint64_t answers[] = {counted(1, 0, 0), 5, counted(0, 1, 0), 5, 5, 5, 5, 5, 5, 5, 5, 5, 5, 0, 5, 0};
+        uint8_t record[RECORD], as_due[RECORD];
+        uint64_t reply = 7;
+        memset(record, 0x5A, RECORD), memset(as_due, 0x5A, RECORD);
+        if (set == 0) memcpy(as_due, kind_parts[1][2], RECORD);
+        if (set == 2) check(diverthrone_synthesize(kind_queries[2], QUERY, as_due, RECORD) == 0, "its record");
+        uint64_t answer = diverthrone_look_up_batch(n[0] > 0 ? kind_queries[2] : NULL, n[0], n[1] > 0 ? shelf : NULL, n[1], 1,
+                                                    n[2] > 0 ? record : NULL, n[2], n[3] > 0 ? &reply : NULL, n[3]);
+        check(answer == answers[set] && memcmp(record, as_due, RECORD) == 0, "some slices are NULL");
+        check(reply == (set == 0 ? 256 * 3 : set == 2 ? 0 : 7), "some slices are NULL: the reply to the query");
+    }
+}
 
 /* NULL with length 0 in each place of each call. */
 static void nothing_lent(void) {
@@ -1992,6 +2598,7 @@ static void nothing_lent(void) {
     refused(enumerate(1, 129, 8, &null), 5, &null, "enumerate: NULL for the query, and all else is wrong too");
     refused(tally(2, 3, &null), 5, &null, "tally: NULL for the cells");
     refused(tally(1, 129, &null), 5, &null, "tally: NULL for the cells, and all else is wrong too");
+    no_batch_lent();
 }
 
 static void of_records(void) {
@@ -2071,6 +2678,29 @@ static void of_the_census(void) {
     census_at_odd_addresses();
 }
 
+static void of_batches(void) {
+    batch_by_hand();
+    make_kinds(0);
+    kinds_at_places();
+    equal_queries();
+    counts_of_queries();
+    batches_for_all();
+    batches_in_any_room();
+    random_batches();
+    shorter_catalogues();
+    wrong_terms_in_batches();
+    malformed_in_batches();
+    nearly_found();
+    many_first_terms();
+    batches_in_many_records();
+    batch_lengths();
+    batch_order();
+    catalogue_before_queries();
+    far_too_many();
+    batch_at_odd_addresses();
+    query_in_the_catalogue();
+}
+
 int main(int argc, char **argv) {
     if (argc > 1 && strcmp(argv[1], "whole") == 0) every = 1;
     of_records();
@@ -2078,6 +2708,7 @@ int main(int argc, char **argv) {
     of_merges();
     of_periods();
     of_the_census();
+    of_batches();
     nothing_lent();
     printf("host test: %d checks, %d failed\n", checks, failures);
     return failures != 0;

@@ -2,11 +2,11 @@
  *
  *   robustness --back, robustness --front
  *       replays the script on standard input and writes the same text as the second program for verify, generate, synthesize, look_up,
- *       read_line, merge, period_length, enumerate and tally; the other operations are passed over. --back puts the end of each buffer at the
- *       forbidden page, --front its start; every other call hands over NULL for its empty buffers, and the same buffer for two equal queries
- *       that are merged, and the others a number above 2^32 that ends like an editor's for a visitor.
- *       To standard error go how many records with an accession number were found for editors, and for visitors of such a number, and how
- *       many queries were merged with themselves in one buffer.
+ *       read_line, merge, period_length, enumerate, tally and look_up_batch; the other operations are passed over. --back puts the end of
+ *       each buffer at the forbidden page, --front its start; every other call hands over NULL for its empty buffers, and the same buffer for
+ *       two equal queries that are merged, and the others a number above 2^32 that ends like an editor's for a visitor.
+ *       To standard error go how many records with an accession number were found for editors, and for visitors of such a number, alone and
+ *       in batches; how many queries were merged with themselves in one buffer; and how many queries of batches were found, made and refused.
  *   robustness --expand SEED COPIES
  *       writes the script on standard input again, with so many altered copies behind each of these calls.
  *
@@ -22,17 +22,18 @@
 #include <unistd.h>
 
 enum { VERIFY = 4, GENERATE = 5, SYNTHESIZE = 6, LOOK_UP = 7, FORGE = 8, READ_LINE = 10, PUSH_ALL = 11, MERGE = 12, PERIOD_LENGTH = 13 };
-enum { ENUMERATE = 14, TALLY = 15 };
+enum { ENUMERATE = 14, TALLY = 15, LOOK_UP_BATCH = 16 };
 enum { HEADER = 16, WIDEST = 65535, PAINT = 0xC3, NEAR = 1024 };
 enum { QUERY = DIVERTHRONE_QUERY_BYTES, A = DIVERTHRONE_A_BYTES, B = DIVERTHRONE_B_BYTES, RECORD = DIVERTHRONE_RECORD_BYTES };
 enum { LENGTH_AT = DIVERTHRONE_LENGTH_PLACE, A_AT = DIVERTHRONE_A_PLACE, B_AT = DIVERTHRONE_B_PLACE, NUMBER_AT = DIVERTHRONE_NUMBER_PLACE };
 
-static const char *const names[] = {"open",  "push",  "register",  "profile",  "verify", "generate",      "synthesize", "look_up",
-                                    "forge", "trace", "read_line", "push_all", "merge",  "period_length", "enumerate",  "tally"};
-static const size_t input_counts[] = {0, 0, 0, 0, 3, 2, 1, 2, 1, 0, 1, 1, 2, 1, 0, 0};
+static const char *const names[] = {"open",       "push",          "register",  "profile", "verify",       "generate",
+                                    "synthesize", "look_up",       "forge",     "trace",   "read_line",    "push_all",
+                                    "merge",      "period_length", "enumerate", "tally",   "look_up_batch"};
+static const size_t input_counts[] = {0, 0, 0, 0, 3, 2, 1, 2, 1, 0, 1, 1, 2, 1, 0, 0, 2};
 
 /* One call of a script; the inputs come first among its buffers, a buffer lent for writing follows them. Enumerate and tally have a count,
- * and enumerate which of the sequences is asked for. */
+ * and enumerate which of the sequences is asked for. A batch has a fourth buffer, for l replies of eight bytes each. */
 struct call {
     unsigned op, fill;
     uint32_t number, l, count;
@@ -45,7 +46,13 @@ static size_t inputs(const struct call *c) { return input_counts[c->op]; }
 
 static int tested(const struct call *c) { return (c->op >= VERIFY && c->op <= LOOK_UP) || c->op == READ_LINE || c->op >= MERGE; }
 
-static size_t buffers(const struct call *c) { return c->op == VERIFY || c->op == PERIOD_LENGTH ? inputs(c) : inputs(c) + 1; }
+static size_t buffers(const struct call *c) {
+    if (c->op == LOOK_UP_BATCH) return 4;
+    return c->op == VERIFY || c->op == PERIOD_LENGTH ? inputs(c) : inputs(c) + 1;
+}
+
+/* In bytes. */
+static size_t length(const struct call *c, size_t i) { return i < 3 ? c->len[i] : 8 * (size_t)c->l; }
 
 /* The cells of a period are only read, but the text has their hash. */
 static int hashed(const struct call *c, size_t i) { return i >= inputs(c) || c->op == PERIOD_LENGTH; }
@@ -85,7 +92,7 @@ static int read_call(struct call *c) {
     if (got == 0) return 0;
     if (got < HEADER) broken("cut short");
     snprintf(unknown, sizeof unknown, "unknown %u", (unsigned)h[0]);
-    if (h[0] > TALLY) broken(unknown);
+    if (h[0] > LOOK_UP_BATCH) broken(unknown);
     c->op = h[0], c->fill = h[1], c->number = number_at(h + 4, 4), c->l = number_at(h + 14, 2);
     for (size_t i = 0; i < 3; i++) c->len[i] = number_at(h + 8 + 2 * i, 2);
     if (c->op == FORGE && c->len[0] != QUERY) broken("bad forge");
@@ -117,7 +124,7 @@ struct area {
     size_t size;
 };
 
-static struct area areas[3];
+static struct area areas[4];
 static int at_back;
 static volatile unsigned long calls_made;
 
@@ -125,9 +132,10 @@ static void allow(const struct area *area, int how) {
     if (mprotect(area->start, area->size, how) != 0) stop(2, "the pages cannot be protected");
 }
 
-static void map_area(struct area *area) {
+/* Room for so many bytes; pages begin and end where numbers may. */
+static void map_area(struct area *area, size_t most) {
     size_t page = (size_t)sysconf(_SC_PAGESIZE);
-    area->size = (WIDEST / page + 1) * page;
+    area->size = (most / page + 1) * page;
     uint8_t *all = mmap(NULL, area->size + 2 * page, PROT_NONE, MAP_PRIVATE | MAP_ANONYMOUS, -1, 0);
     if (all == MAP_FAILED) stop(2, "no memory");
     area->start = all + page;
@@ -160,29 +168,44 @@ static uint64_t asker(const struct call *c) {
     return c->number != DIVERTHRONE_EDITOR && calls_made % 2 == 1 ? large : c->number;
 }
 
-static unsigned long editors_found, visitors_found;
+/* Of single look-ups and of those in batches. */
+static unsigned long editors_found[2], visitors_found[2];
 
 /* A record with an accession number was found. */
 static void count_found(const struct call *c, uint64_t reply) {
     uint64_t value = diverthrone_value(reply);
-    if (c->op != LOOK_UP || diverthrone_refusal(reply) != 0 || value == 0) return;
+    if (diverthrone_refusal(reply) != 0 || value == 0 || value > c->len[1] / RECORD) return;
     const uint8_t *record = c->bytes[1] + (value - 1) * RECORD;
     if (number_at(record + NUMBER_AT, 2) == 0) return;
-    editors_found += c->number == DIVERTHRONE_EDITOR;
-    visitors_found += asker(c) > UINT32_MAX;
+    editors_found[c->op == LOOK_UP_BATCH] += c->number == DIVERTHRONE_EDITOR;
+    visitors_found[c->op == LOOK_UP_BATCH] += asker(c) > UINT32_MAX;
+}
+
+/* Queries of batches by their refusal; those that were found are counted at 255. */
+static unsigned long batch_queries[256];
+
+static void count_batch(const struct call *c, const uint64_t *replies) {
+    for (size_t i = 0; i < c->l; i++) {
+        unsigned refusal = diverthrone_refusal(replies[i]);
+        count_found(c, replies[i]);
+        batch_queries[refusal == 0 && replies[i] != 0 ? 255 : refusal]++;
+    }
 }
 
 static unsigned long lent_twice;
 
 /* Two equal queries may be one buffer. */
-static void lend_twice(const struct call *c, uint8_t *given[3]) {
+static void lend_twice(const struct call *c, uint8_t *given[4]) {
     if (c->op != MERGE || calls_made % 2 == 1) return;
     if (c->len[0] != c->len[1] || memcmp(c->bytes[0], c->bytes[1], c->len[0]) != 0) return;
     given[1] = given[0];
     lent_twice += c->len[0] == QUERY && c->len[2] == QUERY;
 }
 
-static uint64_t enter(const struct call *c, uint8_t *const p[3]) {
+/* A buffer of replies begins where numbers may. */
+static uint64_t *numbers(uint8_t *bytes) { return (uint64_t *)(void *)bytes; }
+
+static uint64_t enter(const struct call *c, uint8_t *const p[4]) {
     const size_t *n = c->len;
     switch (c->op) {
     case VERIFY: return diverthrone_verify(p[0], n[0], p[1], n[1], p[2], n[2], c->number);
@@ -193,6 +216,7 @@ static uint64_t enter(const struct call *c, uint8_t *const p[3]) {
     case PERIOD_LENGTH: return diverthrone_period_length(p[0], n[0]);
     case ENUMERATE: return diverthrone_enumerate(c->number, c->count, c->which, p[0], n[0]);
     case TALLY: return diverthrone_tally(c->number, c->count, p[0], n[0]);
+    case LOOK_UP_BATCH: return diverthrone_look_up_batch(p[0], n[0], p[1], n[1], asker(c), p[2], n[2], numbers(p[3]), c->l);
     default: return diverthrone_look_up(p[0], n[0], p[1], n[1], asker(c), p[2], n[2]);
     }
 }
@@ -215,6 +239,8 @@ static void print_reply(unsigned op, uint64_t reply) {
         printf("%s refused %u", names[op], refusal);
     else if (op == PERIOD_LENGTH)
         printf("%s length %llu", names[op], value);
+    else if (op == LOOK_UP_BATCH)
+        printf("%s found %llu made %llu refused %llu", names[op], value % 256, value / 256 % 256, value / 65536);
     else if (op == VERIFY || op == LOOK_UP)
         value == 0 ? printf("%s %s", names[op], op == VERIFY ? "yes" : "made")
                    : printf("%s %s %llu", names[op], op == VERIFY ? "no" : "found", value - 1);
@@ -222,11 +248,11 @@ static void print_reply(unsigned op, uint64_t reply) {
         value == 0 ? printf("%s ok", names[op]) : printf("%s ok with the value %llu", names[op], value);
 }
 
-static void lend(const struct call *c, uint8_t *p[3]) {
+static void lend(const struct call *c, uint8_t *p[4]) {
     for (size_t i = 0; i < buffers(c); i++) {
-        p[i] = place(&areas[i], c->len[i]);
+        p[i] = place(&areas[i], length(c, i));
         if (i >= inputs(c)) {
-            memset(p[i], (int)c->fill, c->len[i]);
+            memset(p[i], (int)c->fill, length(c, i));
             continue;
         }
         memcpy(p[i], c->bytes[i], c->len[i]);
@@ -234,23 +260,38 @@ static void lend(const struct call *c, uint8_t *p[3]) {
     }
 }
 
+/* After a call: hashes of what it may write, in which the numbers have their low byte first as on the machines that the archive is for. */
+static void take_back(const struct call *c, uint8_t *const p[4]) {
+    for (size_t i = 0; i < buffers(c); i++) {
+        size_t len = length(c, i);
+        if (hashed(c, i)) printf(" %08x", (unsigned)hash(p[i], len));
+        if (i < inputs(c) && memcmp(p[i], c->bytes[i], len) != 0) stop(1, "an input has changed");
+        check_paint(&areas[i], len);
+        allow(&areas[i], PROT_READ | PROT_WRITE);
+        memset(p[i], PAINT, len);
+    }
+    putchar('\n');
+}
+
 static void make(const struct call *c) {
-    uint8_t *p[3] = {NULL, NULL, NULL}, *given[3];
+    uint8_t *p[4] = {NULL, NULL, NULL, NULL}, *given[4];
     lend(c, p);
     calls_made++;
-    for (size_t i = 0; i < 3; i++) given[i] = c->len[i] == 0 && calls_made % 2 == 0 ? NULL : p[i];
+    for (size_t i = 0; i < 4; i++) given[i] = length(c, i) == 0 && calls_made % 2 == 0 ? NULL : p[i];
     lend_twice(c, given);
     uint64_t reply = enter(c, given);
     print_reply(c->op, reply);
-    count_found(c, reply);
-    for (size_t i = 0; i < buffers(c); i++) {
-        if (hashed(c, i)) printf(" %08x", (unsigned)hash(p[i], c->len[i]));
-        if (i < inputs(c) && memcmp(p[i], c->bytes[i], c->len[i]) != 0) stop(1, "an input has changed");
-        check_paint(&areas[i], c->len[i]);
-        allow(&areas[i], PROT_READ | PROT_WRITE);
-        memset(p[i], PAINT, c->len[i]);
-    }
-    putchar('\n');
+    if (c->op == LOOK_UP) count_found(c, reply);
+    if (c->op == LOOK_UP_BATCH && diverthrone_refusal(reply) == 0) count_batch(c, numbers(p[3]));
+    take_back(c, p);
+}
+
+static void print_counts(void) {
+    static const unsigned refusals[] = {1, 2, 3, 4, 24};
+    fprintf(stderr, "editors_found %lu\nvisitors_found %lu\n", editors_found[0], visitors_found[0]);
+    fprintf(stderr, "batch_editors_found %lu\nbatch_visitors_found %lu\n", editors_found[1], visitors_found[1]);
+    fprintf(stderr, "lent_twice %lu\nqueries_found %lu\nqueries_made %lu\n", lent_twice, batch_queries[255], batch_queries[0]);
+    for (size_t i = 0; i < 5; i++) fprintf(stderr, "queries_%u %lu\n", refusals[i], batch_queries[refusals[i]]);
 }
 
 static int replay(struct call *c) {
@@ -258,10 +299,10 @@ static int replay(struct call *c) {
     memset(&action, 0, sizeof action);
     action.sa_handler = trapped;
     if (sigaction(SIGSEGV, &action, NULL) != 0 || sigaction(SIGBUS, &action, NULL) != 0) stop(2, "no signal handler");
-    for (size_t i = 0; i < 3; i++) map_area(&areas[i]);
+    for (size_t i = 0; i < 4; i++) map_area(&areas[i], i < 3 ? WIDEST : 8 * WIDEST);
     while (read_call(c))
         if (tested(c)) make(c);
-    fprintf(stderr, "editors_found %lu\nvisitors_found %lu\nlent_twice %lu\n", editors_found, visitors_found, lent_twice);
+    print_counts();
     return 0;
 }
 
@@ -347,8 +388,9 @@ static void wrong_terms(struct call *c) {
     } while (below(2));
 }
 
+/* Not that of replies. */
 static void one_length(struct call *c) {
-    size_t i = below(buffers(c)), len = c->len[i], less = len > 1 ? len - 2 : 0, r = any();
+    size_t i = below(c->op == LOOK_UP_BATCH ? 3 : buffers(c)), len = c->len[i], less = len > 1 ? len - 2 : 0, r = any();
     const size_t lengths[] = {0, 1, less, less + 1, len + 1, len + 2, len + RECORD, len / 2, len / RECORD * NUMBER_AT, r % 1024, r % 258};
     set_length(c, i, lengths[below(sizeof lengths / sizeof *lengths)]);
 }
@@ -473,6 +515,29 @@ static void synthesize_query(struct call *c) { c->op = SYNTHESIZE, c->number = 0
 
 static void look_up_in_none(struct call *c) { c->op = LOOK_UP, c->number = below(3), c->len[1] = 0, c->len[2] = RECORD; }
 
+static size_t batch_size(const struct call *c) { return c->len[0] / QUERY; }
+
+static size_t batch_records(const struct call *c) { return c->len[1] / RECORD; }
+
+/* So many queries; those that are added are queries that were there, or of records. The other lengths follow. */
+static void set_batch(struct call *c, size_t size) {
+    size_t n = batch_size(c);
+    set_length(c, 0, size * QUERY);
+    c->len[2] = size * RECORD, c->l = (uint32_t)size;
+    for (size_t i = n; i < size; i++) {
+        uint8_t *query = c->bytes[0] + i * QUERY;
+        if (n > 0 && below(2))
+            memcpy(query, c->bytes[0] + below(n) * QUERY, QUERY);
+        else if (batch_records(c) > 0)
+            memcpy(query, c->bytes[1] + below(batch_records(c)) * RECORD, QUERY);
+    }
+}
+
+static void look_up_in_batch(struct call *c) {
+    c->op = LOOK_UP_BATCH;
+    set_batch(c, 1 + below(16));
+}
+
 /* The same bytes in another operation, which brings the candidates into records and the records into tests. */
 static void other_operation(struct call *c) {
     uint32_t kind = below(3);
@@ -484,7 +549,9 @@ static void other_operation(struct call *c) {
     } else if (c->op == SYNTHESIZE) {
         look_up_in_none(c);
     } else if (c->op == LOOK_UP) {
-        if (kind > 0 && c->len[1] >= RECORD)
+        if (c->len[0] == QUERY && below(4) == 0)
+            look_up_in_batch(c);
+        else if (kind > 0 && c->len[1] >= RECORD)
             test_record(c);
         else
             synthesize_query(c);
@@ -737,6 +804,78 @@ static void query_of_sequence(struct call *c) {
     synthesize_query(c);
 }
 
+/* Something is done to one query, and to the records of the same query, as if it were looked up alone. */
+static void one_query(struct call *c) {
+    static void (*const ways[])(struct call *) = {one_cell,     one_term,    one_term, wrong_terms, other_modulus, other_modulus,
+                                                  wild_modulus, other_count, other_l,  other_lead,  other_number,  other_number};
+    static struct call alone;
+    if (batch_size(c) == 0) return;
+    uint8_t *query = c->bytes[0] + below(batch_size(c)) * QUERY;
+    alone.op = LOOK_UP, alone.number = c->number, alone.len[0] = QUERY, alone.len[1] = c->len[1];
+    memcpy(alone.bytes[0], query, QUERY), memcpy(alone.bytes[1], c->bytes[1], c->len[1]);
+    ways[below(sizeof ways / sizeof *ways)](&alone);
+    c->number = alone.number;
+    memcpy(query, alone.bytes[0], QUERY), memcpy(c->bytes[1], alone.bytes[1], c->len[1]);
+}
+
+/* One query in place of another. */
+static void repeat_query(struct call *c) {
+    size_t n = batch_size(c);
+    if (n == 0) return;
+    size_t from = below(n), to = below(n);
+    memmove(c->bytes[0] + to * QUERY, c->bytes[0] + from * QUERY, QUERY);
+}
+
+/* The query of a record in place of another, or the other way round. */
+static void query_of_record(struct call *c) {
+    if (batch_size(c) == 0 || batch_records(c) == 0) return;
+    uint8_t *query = c->bytes[0] + below(batch_size(c)) * QUERY, *record = c->bytes[1] + below(batch_records(c)) * RECORD;
+    if (below(4))
+        memcpy(query, record, QUERY);
+    else
+        memcpy(record, query, QUERY);
+}
+
+/* One record in place of another, with a number of its own, and often with one other bit among the first 260 bytes or behind them. */
+static void repeat_record(struct call *c) {
+    size_t n = batch_records(c);
+    if (n == 0) return;
+    size_t from = below(n), to = below(n), kind = below(3), at = kind == 1 ? below(QUERY) : QUERY + below(RECORD - QUERY);
+    uint32_t bit = below(8);
+    uint8_t *record = c->bytes[1] + to * RECORD;
+    memmove(record, c->bytes[1] + from * RECORD, RECORD);
+    number_to(record + NUMBER_AT, any(), 2);
+    if (kind > 0) record[at] ^= (uint8_t)(1u << bit);
+}
+
+static void other_batch(struct call *c) {
+    size_t n = batch_size(c), sizes[] = {0, 1, n < 40 ? n + 1 : 40, n > 0 && n < 40 ? n - 1 : 2, 15, 16, 16, 17, 18, 32, below(17)};
+    set_batch(c, sizes[below(sizeof sizes / sizeof *sizes)]);
+}
+
+/* Another number of records, each a copy of one that was there, or none. */
+static void other_catalogue(struct call *c) {
+    size_t n = batch_records(c), size = below(4) ? below(24) : 0;
+    set_length(c, 1, size * RECORD);
+    for (size_t i = n; n > 0 && i < size; i++) memcpy(c->bytes[1] + i * RECORD, c->bytes[1] + below(n) * RECORD, RECORD);
+}
+
+/* Another number of replies, or another length of one of the other buffers. */
+static void batch_length(struct call *c) {
+    uint32_t n = c->l, r = any(), values[] = {0, n + 1, n > 0 ? n - 1 : 1, 8 * n, 16, 17, r % 64, r % 4096};
+    if (below(3) > 0)
+        one_length(c);
+    else
+        c->l = pick(values, sizeof values / sizeof *values) % 65536;
+}
+
+/* One of its queries by itself. */
+static void query_alone(struct call *c) {
+    if (batch_size(c) == 0) return;
+    memmove(c->bytes[0], c->bytes[0] + below(batch_size(c)) * QUERY, QUERY);
+    c->op = LOOK_UP, c->l = 0, c->len[0] = QUERY, c->len[2] = RECORD;
+}
+
 /* One alteration in three is followed by another one, for the order of the refusals. */
 static void alter(struct call *c) {
     static void (*const ways[])(struct call *) = {one_byte,        one_cell,        one_cell,      one_term,      one_term,     wrong_terms,
@@ -753,6 +892,10 @@ static void alter(struct call *c) {
     static void (*const census_ways[])(struct call *) = {legal_census, legal_census, legal_census,   census_modulus,   census_modulus,
                                                          census_count, census_count, other_sequence, other_sequence,   other_sequence,
                                                          one_length,   other_fill,   other_question, query_of_sequence};
+    static void (*const batch_ways[])(struct call *) = {one_byte,      one_cell,     one_query,     one_query,       one_query,
+                                                        one_query,     repeat_query, repeat_query,  query_of_record, query_of_record,
+                                                        repeat_record, other_batch,  repeat_record, other_batch,     other_catalogue,
+                                                        batch_length,  batch_length, other_fill,    query_alone};
     do {
         if (c->op == READ_LINE)
             line_ways[below(sizeof line_ways / sizeof *line_ways)](c);
@@ -760,6 +903,8 @@ static void alter(struct call *c) {
             merge_ways[below(sizeof merge_ways / sizeof *merge_ways)](c);
         else if (c->op == PERIOD_LENGTH)
             period_ways[below(sizeof period_ways / sizeof *period_ways)](c);
+        else if (c->op == LOOK_UP_BATCH)
+            batch_ways[below(sizeof batch_ways / sizeof *batch_ways)](c);
         else if (c->op >= ENUMERATE)
             census_ways[below(sizeof census_ways / sizeof *census_ways)](c);
         else

@@ -3,6 +3,7 @@
 
 #undef diverthrone_synthesize
 #undef diverthrone_look_up
+#undef diverthrone_look_up_batch
 #undef diverthrone_verify
 #undef diverthrone_generate
 #undef diverthrone_read_line
@@ -11,8 +12,8 @@
 #undef diverthrone_enumerate
 #undef diverthrone_tally
 
-const uint8_t *seen[3];
-size_t seen_len[3];
+const uint8_t *seen[4];
+size_t seen_len[4];
 uint32_t seen_number[2];
 uint64_t seen_wide;
 
@@ -70,4 +71,13 @@ uint64_t diverthrone_tally(uint32_t modulus, uint32_t count, uint8_t *cells, siz
     see(0, cells, cells_len);
     seen_number[0] = count, seen_number[1] = modulus;
     return 9;
+}
+
+/* Replies are numbers, lent by their address like all else. */
+uint64_t diverthrone_look_up_batch(const uint8_t *queries, size_t queries_len, const uint8_t *catalogue, size_t catalogue_len, uint64_t who,
+                                   uint8_t *records, size_t records_len, uint64_t *replies, size_t replies_len) {
+    see(0, queries, queries_len), see(1, catalogue, catalogue_len), see(2, records, records_len);
+    see(3, (const uint8_t *)replies, replies_len);
+    seen_wide = who;
+    return 10;
 }

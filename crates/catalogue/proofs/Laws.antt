@@ -3,14 +3,14 @@
 use mathlib.Core.Path.{_≡_, refl, sym, ap, _∙_, subst}
 use mathlib.Core.Bool.{Bool, true, false}
 use mathlib.Core.List.{List, [], _∷_, _++_, append-assoc, append-nil}
-use Prim.Native.Nat.{ℕ, _+_, _-_, _%_, _<_}
+use Prim.Native.Nat.{ℕ, _+_, _-_, _%_, _≤_, _<_}
 use native.Mathlib.Nat.{lt-irrefl}
 use native.Mathlib.Omega.{arith}
 use lib.Dec.{ltb, eqb}
 use lib.ListN.{length, take, drop, set, length-drop, length-append, drop-of-length-le, take-append-drop}
 use lib.Seq.{take-at, drop-at, take-all, length-take-le, getD-take}
 use borrow.Rule.Slice.PartMut.{putMid, postOf}
-use borrow.Author.Tests.{lt-ltb, le-ltb, ltb-true}
+use borrow.Author.Tests.{lt-ltb, le-ltb, eq-eqb, ltb-true}
 use Rattle.lists.specs.Choice.{pick}
 use Rattle.lists.specs.Table.{at}
 use Rattle.lists.specs.Search.{first}
@@ -203,3 +203,17 @@ found-below query catalogue out i h =
     go true O.Done false f e q = let z : _≡_ {A = ℕ} 0 1 = cc in absurd (omega arith)
     go true O.Done true M.Nowhere e q = let z : _≡_ {A = ℕ} 0 1 = cc in absurd (omega arith)
     go true O.Done true (M.At j) e q = served j (passes (sequenceOf query) (recordAt catalogue j)) e q
+
+-- a query that passed its checks, in a catalogue of whole records: its first record is tested, and without one a record is made
+module _ (query catalogue out : List ℕ) (size : length out ≡ recordBytes) (passed : checkOf query ≡ O.Done) (whole : length catalogue % recordBytes ≡ 0) where
+  pub look-up-made : records catalogue ≤ firstMatch query catalogue (records catalogue) → lookUpOf query catalogue out ≡ S.Made
+  unfolding lookUpOf fetchOf
+  look-up-made h = rw (eq-eqb _ _ size, passed, eq-eqb _ _ whole, le-ltb _ _ h)
+
+  pub look-up-met :
+      firstMatch query catalogue (records catalogue) < records catalogue
+      → lookUpOf query catalogue out
+      ≡ pick (passes (sequenceOf query) (recordAt catalogue (firstMatch query catalogue (records catalogue)))) (S.Found (firstMatch query catalogue (records catalogue)))
+      (S.Refused R.Record)
+  unfolding lookUpOf fetchOf
+  look-up-met h = rw (eq-eqb _ _ size, passed, eq-eqb _ _ whole, lt-ltb _ _ h)

@@ -24,7 +24,7 @@ pub const A_PLACE: usize = QUERY_BYTES + 2;
 
 pub const B_PLACE: usize = A_PLACE + A_BYTES;
 
-const NUMBER_PLACE: usize = B_PLACE + B_BYTES;
+pub const NUMBER_PLACE: usize = B_PLACE + B_BYTES;
 
 pub const RECORD_BYTES: usize = NUMBER_PLACE + 2;
 
@@ -57,7 +57,7 @@ fn write_body(query: &[u8], s: Sequence, out: &mut [u8])
 }
 
 // 0 for an accession number.
-fn hide(number: &mut [u8])
+pub fn hide(number: &mut [u8])
     requires { ⌜ length (now number) ≡ 2 ⌝ }
     ensures { λ _. ⌜ now (number .exit) ≡ noNumber ⌝ }
 {
@@ -66,7 +66,7 @@ fn hide(number: &mut [u8])
 }
 
 // The record of a query with the sound sequence s, with no accession number yet.
-fn write_record(query: &[u8], s: Sequence, out: &mut [u8])
+pub fn write_record(query: &[u8], s: Sequence, out: &mut [u8])
     requires { ⌜ (length (now query) ≡ queryBytes) × IsSound s × (length (now out) ≡ recordBytes) ⌝ }
     ensures { λ _. ⌜ now (out .exit) ≡ layout (now (query .entry)) s ++ noNumber ⌝ }
 {
@@ -103,7 +103,7 @@ fn wide(x: u8) -> u64
 }
 
 // The first four terms as one number: a machine reads these eight bytes at once.
-fn word(s: &[u8]) -> u64
+pub fn word(s: &[u8]) -> u64
     requires { ⌜ 12 ≤ length (now s) ⌝ }
     ensures { λ r. ⌜ r ≡ wordOf (now (s .entry)) ⌝ }
 {
@@ -114,7 +114,7 @@ fn word(s: &[u8]) -> u64
 
 // Whether a record is one of the query: its first 260 bytes are the query's. Most records are told apart by the first four terms;
 // of the others it reads up to the first byte that differs.
-fn is_of(query: &[u8], entry: &[u8]) -> bool
+pub fn is_of(query: &[u8], entry: &[u8]) -> bool
     requires { ⌜ (length (now query) ≡ queryBytes) × (length (now entry) ≡ recordBytes) ⌝ }
     ensures { λ r. ⌜ r ≡ isOf (now (query .entry)) (now (entry .entry)) ⌝ }
 {
@@ -142,7 +142,7 @@ fn find(query: &[u8], catalogue: &[u8]) -> Match
 }
 
 // Whether the register in a record passes the test against the query's sequence.
-fn is_good(s: Sequence, entry: &[u8]) -> bool
+pub fn is_good(s: Sequence, entry: &[u8]) -> bool
     requires { ⌜ IsSound s × (length (now entry) ≡ recordBytes) ⌝ }
     ensures { λ r. ⌜ r ≡ passes s (now (entry .entry)) ⌝ }
 {

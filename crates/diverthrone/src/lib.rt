@@ -3,11 +3,7 @@ use candidate::Verdict;
 use catalogue::LookedUp;
 use period::Measured;
 use sequence::Outcome;
-use sequence::Place;
-use sequence::Refusal;
 ghost use mathlib.Core.Path.{_≡_};
-ghost use Prim.Native.Nat.{_≤_, min};
-ghost use Rattle.sequence.specs.Answers.{refusal};
 ghost use Rattle.sequence.specs.Report.{filled};
 ghost use Rattle.candidate.specs.Rules.{verifyAnswer, generateOf, generateAnswer, generatedIn};
 ghost use Rattle.catalogue.specs.Rules.{recordOf, synthesizeOf, synthesizeAnswer, lookUpOf, lookUpAnswer, servedIn};
@@ -16,33 +12,7 @@ ghost use Rattle.lines.specs.Reply.{readOf, readAnswer, queryIn};
 ghost use Rattle.merge.specs.Rules.{mergeOf, mergeAnswer, mergedIn};
 ghost use Rattle.period.specs.Rules.{periodLengthAnswer};
 ghost use Rattle.enumeration.specs.Rules.{enumerateOf, enumerateAnswer, queryNumbered, tallyOf, tallyAnswer, tallyCells};
-ghost use Rattle.diverthrone.specs.Codes.{lastPlace, codeOf, lengthCodeOf};
-
-// 2^56 - 1: the last place that fits beside the number of a refusal.
-const LAST_PLACE: u64 = 72057594037927935;
-
-// A place for C: itself, in every line that a machine can hold.
-fn told(i: usize) -> u64
-    ensures { λ n. ⌜ (n ≡ min i lastPlace) × (n ≤ lastPlace) ⌝ }
-{
-    let place = i as u64;
-    if place < LAST_PLACE {
-        return place;
-    }
-    LAST_PLACE
-}
-
-// A refusal by its number, with its place as the value.
-fn refused(r: Refusal) -> u64
-    ensures { λ n. ⌜ n ≡ codeOf (refusal r) ⌝ }
-{
-    let n = sequence::number(r);
-    let p = sequence::place_of(r);
-    match p {
-        Place::At(i) => n + 256 * told(i),
-        Place::Nowhere => n,
-    }
-}
+ghost use Rattle.codes.specs.Codes.{codeOf, lengthCodeOf};
 
 // Makes the record of a query.
 // Rejected: one that refuses every query; one that writes the query's bytes before it refuses.
@@ -54,7 +24,7 @@ pub extern "C" fn diverthrone_synthesize(query: &[u8], out: &mut [u8]) -> u64
     let o = catalogue::synthesize(query, out);
     match o {
         Outcome::Done => 0,
-        Outcome::Refused(r) => refused(r),
+        Outcome::Refused(r) => codes::refused(r),
     }
 }
 
@@ -74,7 +44,7 @@ pub extern "C" fn diverthrone_look_up(
     match t {
         LookedUp::Made => 0,
         LookedUp::Found(i) => 256 * (1 + i as u64),
-        LookedUp::Refused(r) => refused(r),
+        LookedUp::Refused(r) => codes::refused(r),
     }
 }
 
@@ -88,7 +58,7 @@ pub extern "C" fn diverthrone_verify(query: &[u8], a: &[u8], b: &[u8], length: u
     match v {
         Verdict::Yes => 0,
         Verdict::No(i) => 256 * (1 + i as u64),
-        Verdict::Refused(r) => refused(r),
+        Verdict::Refused(r) => codes::refused(r),
     }
 }
 
@@ -108,7 +78,7 @@ pub extern "C" fn diverthrone_generate(
     let o = candidate::generate(modulus, a, b, length, out);
     match o {
         Outcome::Done => 0,
-        Outcome::Refused(r) => refused(r),
+        Outcome::Refused(r) => codes::refused(r),
     }
 }
 
@@ -122,7 +92,7 @@ pub extern "C" fn diverthrone_read_line(line: &[u8], query: &mut [u8]) -> u64
     let o = lines::read_line(line, query);
     match o {
         Outcome::Done => 0,
-        Outcome::Refused(r) => refused(r),
+        Outcome::Refused(r) => codes::refused(r),
     }
 }
 
@@ -136,7 +106,7 @@ pub extern "C" fn diverthrone_merge(first: &[u8], second: &[u8], query: &mut [u8
     let o = merge::merge(first, second, query);
     match o {
         Outcome::Done => 0,
-        Outcome::Refused(r) => refused(r),
+        Outcome::Refused(r) => codes::refused(r),
     }
 }
 
@@ -149,7 +119,7 @@ pub extern "C" fn diverthrone_period_length(cells: &[u8]) -> u64
     let m = period::period_length(cells);
     match m {
         Measured::Length(l) => 256 * (l as u64),
-        Measured::Refused(r) => refused(r),
+        Measured::Refused(r) => codes::refused(r),
     }
 }
 
@@ -168,7 +138,7 @@ pub extern "C" fn diverthrone_enumerate(
     let o = enumeration::enumerate(modulus, count, number, query);
     match o {
         Outcome::Done => 0,
-        Outcome::Refused(r) => refused(r),
+        Outcome::Refused(r) => codes::refused(r),
     }
 }
 
@@ -182,6 +152,6 @@ pub extern "C" fn diverthrone_tally(modulus: u32, count: u32, cells: &mut [u8]) 
     let o = enumeration::tally(modulus, count, cells);
     match o {
         Outcome::Done => 0,
-        Outcome::Refused(r) => refused(r),
+        Outcome::Refused(r) => codes::refused(r),
     }
 }

@@ -28,7 +28,7 @@ use Rattle.sequence.specs.Rules.{faultOf, checkOf, openOf, pushOf, queryOf, seq
 use Rattle.sequence.specs.Report.{uniquenessBy, reportOf}
 use Rattle.merge.specs.Rules.{mergedQuery, comparedOf, mergeOf, mergeAnswer}
 use Rattle.guarantees.specs.Calls.{afterAll}
-use Rattle.diverthrone.specs.Codes.{codeOf}
+use Rattle.codes.specs.Codes.{codeOf}
 use Rattle.guarantees.specs.Cases.{zeros, reply}
 use Rattle.guarantees.specs.Merging as M
 use Rattle.guarantees.specs.Merging.{Comparable, TwoQueries}

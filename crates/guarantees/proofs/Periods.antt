@@ -39,8 +39,8 @@ use Rattle.period.specs.Halving.{halving}
 use Rattle.period.specs.Rules.{exponent, digitsIn, measuredAnswer, periodLengthOf, periodLengthAnswer}
 use Rattle.period.proofs.Laws as L
 use Rattle.period.proofs.Answers.{period-told}
-use Rattle.diverthrone.specs.Codes.{lengthCodeOf}
-use Rattle.diverthrone.proofs.Laws.{length-valued, length-refused}
+use Rattle.codes.specs.Codes.{lengthCodeOf}
+use Rattle.codes.proofs.Laws.{length-valued, length-refused}
 use Rattle.guarantees.specs.Calls.{Call, pushAll, afterAll, takes, takenFrom, taken}
 use Rattle.guarantees.specs.Claims.{ShownBy, Demand3, termsOf, profileCell, lengthMade}
 use Rattle.guarantees.specs.Periods.{IsPeriod, Digits, Reason, odd, other, digit, told, Repeats, WholePeriods, WrittenQuery, DeskLength, Measures, BinaryPeriods}

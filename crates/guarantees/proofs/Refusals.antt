@@ -30,7 +30,7 @@ use Rattle.candidate.proofs.Testing.{generate-flaw}
 use Rattle.catalogue.specs.declared.LookedUp.the-variants as S
 use Rattle.catalogue.specs.Rules.{recordBytes, records, recordAt, firstMatch, passes, synthesizeOf, lookUpOf}
 use Rattle.catalogue.proofs.Refusals.{synthesize-query, synthesize-refused, LookUpRefused, look-up-query, look-up-refused, look-up-fails, fails-look-up, not-yes, yes-not}
-use Rattle.diverthrone.specs.Codes.{lastPlace}
+use Rattle.codes.specs.Codes.{lastPlace}
 use Rattle.guarantees.specs.Calls.{Call, afterAll, taken}
 use Rattle.guarantees.specs.Refusals.{PlacesCarried, Readable, WrongAt, FirstWrong, Clean, Placed, PushPlaced, EveryPlace, OneOfThree, Flawed, Runs, MeetsAt, testAt, EveryFlaw}
 use Rattle.guarantees.proofs.State.{holding, sound-for, state, good}
@@ -72,6 +72,7 @@ places-carried =
     plain (R.TermsDisagree i) h k l m = absurd (m refl)
     plain R.Period h k l m = refl
     plain R.Census h k l m = refl
+    plain R.Batch h k l m = refl
 
 -- ---- where a query is wrong
 

@@ -11,7 +11,7 @@ use Rattle.catalogue.specs.declared.LookedUp.{LookedUp}
 use Rattle.catalogue.specs.Rules.{bodyBytes, recordOf, recordAt, lookUpOf, editor, servedIn}
 use Rattle.catalogue.proofs.Places.{made-number}
 use Rattle.catalogue.proofs.Visitors.{reply-same, answer-same, bytes-same, seen-whole, made-checked}
-use Rattle.diverthrone.specs.Codes.{codeOf}
+use Rattle.codes.specs.Codes.{codeOf}
 use Rattle.guarantees.specs.Visitors.{servedFrom, NothingLearned, ServedTo, EveryServing}
 use Rattle.guarantees.proofs.Records.{size, making-checked}
 

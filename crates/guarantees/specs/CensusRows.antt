@@ -11,7 +11,7 @@ use Rattle.sequence.specs.Limits.{queryBytes}
 use Rattle.sequence.specs.Answers.{Answer, granted, refused}
 use Rattle.sequence.specs.Rules.{queryOf}
 use Rattle.enumeration.specs.Rules.{lengths, tallyBytes, enumerateAnswer, tallyAnswer}
-use Rattle.diverthrone.specs.Codes.{codeOf}
+use Rattle.codes.specs.Codes.{codeOf}
 use Rattle.formatting.specs.declared.Pair.the-variants.{Numbers, NoPair}
 use Rattle.formatting.specs.Census.{censusHeader, pairIn, pairLine, isPair}
 use Rattle.guarantees.specs.Census.{queryAfter, cellsAfter}

@@ -8,7 +8,7 @@ use Rattle.sequence.specs.Limits.{queryBytes}
 use Rattle.sequence.specs.Answers.{Answer, granted, refused, refusedAt}
 use Rattle.sequence.specs.Rules.{queryOf}
 use Rattle.merge.specs.Rules.{mergeAnswer}
-use Rattle.diverthrone.specs.Codes.{codeOf}
+use Rattle.codes.specs.Codes.{codeOf}
 use Rattle.guarantees.specs.Cases.{zeros, reply}
 use Rattle.guarantees.specs.Numbers.{counted}
 use Rattle.guarantees.specs.Merging.{mergedExit}

@@ -19,7 +19,7 @@ use Rattle.sequence.specs.Trace.{recordsOf, traceOf, traceAnswer, sheetFilled}
 use Rattle.column.specs.Rules.{pushAllOf, pushAllAnswer}
 use Rattle.candidate.specs.Rules.{verifyAnswer, generateAnswer}
 use Rattle.catalogue.specs.Rules.{recordBytes, bodyBytes, body, recordOf, synthesizeAnswer, lookUpOf, lookUpAnswer, servedIn}
-use Rattle.diverthrone.specs.Codes.{codeOf}
+use Rattle.codes.specs.Codes.{codeOf}
 use Rattle.guarantees.specs.Cases.{after, zeros, aOf, bOf}
 
 -- 6, 3, 1, 5, 6 modulo 9 and 2, 2 modulo 4, with their records

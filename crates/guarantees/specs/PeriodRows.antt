@@ -13,7 +13,7 @@ use Rattle.sequence.specs.Rules.{queryOf}
 use Rattle.catalogue.specs.Rules.{recordBytes}
 use Rattle.period.specs.Halving.{halving}
 use Rattle.period.specs.Rules.{periodLengthAnswer}
-use Rattle.diverthrone.specs.Codes.{lengthCodeOf}
+use Rattle.codes.specs.Codes.{lengthCodeOf}
 use Rattle.guarantees.specs.Cases.{zeros}
 use Rattle.guarantees.specs.Claims.{lengthMade}
 

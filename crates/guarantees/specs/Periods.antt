@@ -22,7 +22,7 @@ use Rattle.period.specs.declared.Measured.{Measured}
 use Rattle.period.specs.declared.Measured.the-variants.{Length, Refused}
 use Rattle.period.specs.Halving.{halving}
 use Rattle.period.specs.Rules.{measuredAnswer, periodLengthOf, periodLengthAnswer}
-use Rattle.diverthrone.specs.Codes.{codeOf, lengthCodeOf}
+use Rattle.codes.specs.Codes.{codeOf, lengthCodeOf}
 use Rattle.guarantees.specs.Calls.{Call, pushAll, afterAll, taken}
 use Rattle.guarantees.specs.Claims.{termsOf, profileCell, lengthMade}
 

@@ -19,7 +19,7 @@ use Rattle.candidate.specs.declared.Verdict.the-variants as W
 use Rattle.candidate.specs.Rules.{aCells, bCells, Fits, IsFine, verifyOf, generateOf}
 use Rattle.catalogue.specs.declared.LookedUp.the-variants as S
 use Rattle.catalogue.specs.Rules.{recordBytes, aPlace, bPlace, lengthCell, records, recordAt, firstMatch, synthesizeOf, lookUpOf}
-use Rattle.diverthrone.specs.Codes.{lastPlace, codeOf}
+use Rattle.codes.specs.Codes.{lastPlace, codeOf}
 use Rattle.guarantees.specs.Calls.{Call, afterAll, taken}
 
 -- ---- the place that a refusal carries

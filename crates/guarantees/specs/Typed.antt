@@ -10,7 +10,7 @@ use Rattle.sequence.specs.Limits.{queryBytes}
 use Rattle.sequence.specs.Answers.{Answer, granted, refused, refusedAt}
 use Rattle.sequence.specs.Rules.{queryOf}
 use Rattle.lines.specs.Reply.{readAnswer}
-use Rattle.diverthrone.specs.Codes.{codeOf}
+use Rattle.codes.specs.Codes.{codeOf}
 use Rattle.guarantees.specs.Cases.{zeros}
 use Rattle.guarantees.specs.Lines.{exitOf}
 

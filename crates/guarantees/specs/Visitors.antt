@@ -9,7 +9,7 @@ use Rattle.sequence.specs.declared.Outcome.the-variants.{Done}
 use Rattle.sequence.specs.Report.{filled}
 use Rattle.catalogue.specs.declared.LookedUp.the-variants.{Found, Made, Refused}
 use Rattle.catalogue.specs.Rules.{bodyBytes, body, recordOf, synthesizeOf, recordAt, records, lookUpOf, lookUpAnswer, editor, servedIn}
-use Rattle.diverthrone.specs.Codes.{codeOf}
+use Rattle.codes.specs.Codes.{codeOf}
 
 -- two catalogues of the same length that differ at most in the accession numbers of their records
 pub record SameButNumbers (c c' : List ℕ) : Type 0 where

@@ -51,6 +51,7 @@ refusal R.MultipleAbove = refused 30
 refusal (R.TermsDisagree i) = refusedAt 31 i
 refusal R.Period = refused 32
 refusal R.Census = refused 33
+refusal R.Batch = refused 34
 
 -- a place as a value
 abbrev pub placed : Place → List ℕ

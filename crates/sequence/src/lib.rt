@@ -65,6 +65,7 @@ pub enum Refusal {
     TermsDisagree(u32),
     Period,
     Census,
+    Batch,
 }
 
 // The place that a refusal carries.
@@ -321,6 +322,7 @@ pub fn number(r: Refusal) -> u64
         Refusal::TermsDisagree(_) => 31,
         Refusal::Period => 32,
         Refusal::Census => 33,
+        Refusal::Batch => 34,
     }
 }
 

@@ -7,8 +7,8 @@ use borrow.Author.Needs.{needs}
 use Rattle.catalogue.specs.declared.LookedUp.{LookedUp}
 use Rattle.catalogue.specs.Rules.{recordBytes, lookedUpAnswer, servedIn}
 use Rattle.catalogue.proofs.Laws.{found-below}
-use Rattle.diverthrone.specs.Codes.{codeOf}
-use Rattle.diverthrone.proofs.Laws.{valued}
+use Rattle.codes.specs.Codes.{codeOf}
+use Rattle.codes.proofs.Laws.{valued}
 use Rattle.diverthrone.proofs.diverthrone_look_up.Statement.{statement}
 use Rattle.diverthrone.proofs.diverthrone_look_up.Tie as tie
 

@@ -5,7 +5,7 @@ use borrow.Author.Needs.{needs}
 use Rattle.sequence.specs.Answers.{outcomeAnswer}
 use Rattle.sequence.specs.declared.Outcome.{Outcome}
 use Rattle.merge.specs.Rules.{mergedIn}
-use Rattle.diverthrone.specs.Codes.{codeOf}
+use Rattle.codes.specs.Codes.{codeOf}
 use Rattle.diverthrone.proofs.diverthrone_merge.Statement.{statement}
 use Rattle.diverthrone.proofs.diverthrone_merge.Tie as tie
 

@@ -4,8 +4,8 @@ use mathlib.Core.Path.{sym, ap, _∙_}
 use borrow.Author.Needs.{needs}
 use Rattle.period.specs.declared.Measured.{Measured}
 use Rattle.period.specs.Rules.{measuredAnswer}
-use Rattle.diverthrone.specs.Codes.{lengthCodeOf}
-use Rattle.diverthrone.proofs.Laws.{length-valued, length-refused}
+use Rattle.codes.specs.Codes.{lengthCodeOf}
+use Rattle.codes.proofs.Laws.{length-valued, length-refused}
 use Rattle.diverthrone.proofs.diverthrone_period_length.Statement.{statement}
 use Rattle.diverthrone.proofs.diverthrone_period_length.Tie as tie
 

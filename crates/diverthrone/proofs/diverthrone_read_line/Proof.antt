@@ -7,7 +7,7 @@ use Rattle.sequence.specs.declared.Outcome.{Outcome}
 use Rattle.sequence.specs.Report.{filled}
 use Rattle.lines.specs.Reading.{foundIn}
 use Rattle.lines.specs.Reply.{queryIn}
-use Rattle.diverthrone.specs.Codes.{codeOf}
+use Rattle.codes.specs.Codes.{codeOf}
 use Rattle.diverthrone.proofs.diverthrone_read_line.Statement.{statement}
 use Rattle.diverthrone.proofs.diverthrone_read_line.Tie as tie
 

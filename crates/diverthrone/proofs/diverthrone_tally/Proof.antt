@@ -6,7 +6,7 @@ use Rattle.sequence.specs.Answers.{outcomeAnswer}
 use Rattle.sequence.specs.declared.Outcome.{Outcome}
 use Rattle.sequence.specs.Report.{filled}
 use Rattle.enumeration.specs.Rules.{tallyCells}
-use Rattle.diverthrone.specs.Codes.{codeOf}
+use Rattle.codes.specs.Codes.{codeOf}
 use Rattle.diverthrone.proofs.diverthrone_tally.Statement.{statement}
 use Rattle.diverthrone.proofs.diverthrone_tally.Tie as tie
 

@@ -4,8 +4,8 @@ use mathlib.Core.Path.{sym, ap, _∙_}
 use borrow.Author.Needs.{needs}
 use Rattle.candidate.specs.declared.Verdict.{Verdict}
 use Rattle.candidate.specs.Rules.{verdictAnswer}
-use Rattle.diverthrone.specs.Codes.{codeOf}
-use Rattle.diverthrone.proofs.Laws.{valued}
+use Rattle.codes.specs.Codes.{codeOf}
+use Rattle.codes.proofs.Laws.{valued}
 use Rattle.diverthrone.proofs.diverthrone_verify.Statement.{statement}
 use Rattle.diverthrone.proofs.diverthrone_verify.Tie as tie
 

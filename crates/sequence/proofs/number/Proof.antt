@@ -69,6 +69,9 @@ enum-told-18 c = search needs
 enum-told-19 : tie.Need-enum-told-19
 enum-told-19 c = search needs
 
+enum-told-20 : tie.Need-enum-told-20
+enum-told-20 c = search needs
+
 returns : tie.Need-returns
 returns c = told (c .enum-told .given .1) (omega arith)
 
@@ -126,6 +129,9 @@ returns-18 c = told (c .enum-told18 .given .1) (omega arith)
 returns-19 : tie.Need-returns-19
 returns-19 c = told (c .enum-told19 .given .1) (omega arith)
 
+returns-20 : tie.Need-returns-20
+returns-20 c = told (c .enum-told20 .given .1) (omega arith)
+
 pub number-spec : {M : Type 1} → statement M
 number-spec =
     tie.close
@@ -149,6 +155,7 @@ number-spec =
     enum-told-17
     enum-told-18
     enum-told-19
+    enum-told-20
     returns
     returns-2
     returns-3
@@ -167,4 +174,5 @@ number-spec =
     returns-16
     returns-17
     returns-18
-    returns-19)
+    returns-19
+    returns-20)

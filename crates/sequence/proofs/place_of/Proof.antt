@@ -48,7 +48,7 @@ returns-5 c = go (c .before .args .r) (c .match .keys5)
   where
     -- all but that of a term, which is 2, those of a line, 12 and 13, and that of two terms, 16
     tags : List ℕ
-    tags = 0 ∷ 1 ∷ 3 ∷ 4 ∷ 5 ∷ 6 ∷ 7 ∷ 8 ∷ 9 ∷ 10 ∷ 11 ∷ 14 ∷ 15 ∷ 17 ∷ 18 ∷ []
+    tags = 0 ∷ 1 ∷ 3 ∷ 4 ∷ 5 ∷ 6 ∷ 7 ∷ 8 ∷ 9 ∷ 10 ∷ 11 ∷ 14 ∷ 15 ∷ 17 ∷ 18 ∷ 19 ∷ []
 
     go : (r : Refusal) → OneOf tags (tagOf the-type r) → [] ≡ refusal r .values
     go R.Modulus k = refl
@@ -70,6 +70,7 @@ returns-5 c = go (c .before .args .r) (c .match .keys5)
     go (R.TermsDisagree i) k = absurd (miss tags 16 tt k)
     go R.Period k = refl
     go R.Census k = refl
+    go R.Batch k = refl
 
 pub place-of-spec : {M : Type 1} → statement M
 place-of-spec =

@@ -1,8 +1,8 @@
 -- `told` meets its contract: the smaller of the place and the last that fits.
 -- Assumes nothing.
 use borrow.Author.Needs.{needs}
-use Rattle.diverthrone.proofs.told.Statement.{statement}
-use Rattle.diverthrone.proofs.told.Tie as tie
+use Rattle.codes.proofs.told.Statement.{statement}
+use Rattle.codes.proofs.told.Tie as tie
 
 returns : tie.Need-returns
 returns c = search needs

@@ -1,15 +1,15 @@
--- Laws of the numbers for C.
+-- Laws of answers as one number.
 -- Assumes nothing.
 use mathlib.Core.Path.{_≡_, refl, sym, ap, ap₂, _∙_}
 use mathlib.Core.List.{List, [], _∷_}
-use Prim.Native.Nat.{ℕ, zero, suc, _+_, _*_, min}
+use Prim.Native.Nat.{ℕ, zero, suc, _+_, _*_, _%_, _<_, min}
 use native.Mathlib.Omega.{arith}
 use Rattle.sequence.specs.declared.Refusal.{Refusal}
 use Rattle.sequence.specs.declared.Refusal.the-variants as R
 use Rattle.sequence.specs.declared.Place.{Place}
 use Rattle.sequence.specs.declared.Place.the-variants.{At, Nowhere}
 use Rattle.sequence.specs.Answers.{granted, refusal, placed}
-use Rattle.diverthrone.specs.Codes.{lastPlace, valueBy, codeOf, lengthCodeOf}
+use Rattle.codes.specs.Codes.{lastPlace, valueBy, codeOf, lengthCodeOf}
 
 -- a value without a refusal
 pub valued : (v : ℕ) → 256 * (1 + v) ≡ codeOf (granted (v ∷ []))
@@ -41,6 +41,7 @@ told-same told told′ R.MultipleAbove (v ∷ vs) = refl
 told-same told told′ (R.TermsDisagree i) (v ∷ vs) = refl
 told-same told told′ R.Period (v ∷ vs) = refl
 told-same told told′ R.Census (v ∷ vs) = refl
+told-same told told′ R.Batch (v ∷ vs) = refl
 
 at-place : (r : Refusal) (i : ℕ) → valueBy suc (refusal r .number) (i ∷ []) ≡ min i lastPlace
 at-place r i = told-same suc (λ v. min v lastPlace) r (i ∷ []) ∙ go (refusal r .number)
@@ -62,3 +63,33 @@ pub plain-code : (r : Refusal) {n : ℕ} {p : Place} → n ≡ refusal r .number
 plain-code r {n} e h k =
     (let z : n ≡ n + 256 * 0 = omega arith in z)
     ∙ ap₂ (λ (x : ℕ) (vs : List ℕ). x + 256 * valueBy suc x vs) e (ap placed (sym k) ∙ h)
+
+-- the number of a refusal is neither 0 nor above a byte
+number-small : (r : Refusal) → (0 < refusal r .number) × (refusal r .number < 256)
+number-small R.Modulus = (omega arith, omega arith)
+number-small R.Count = (omega arith, omega arith)
+number-small (R.Term i) = (omega arith, omega arith)
+number-small R.Padding = (omega arith, omega arith)
+number-small R.Buffer = (omega arith, omega arith)
+number-small R.CandidateCoefficient = (omega arith, omega arith)
+number-small R.Sequence = (omega arith, omega arith)
+number-small R.Full = (omega arith, omega arith)
+number-small R.Catalogue = (omega arith, omega arith)
+number-small R.Record = (omega arith, omega arith)
+number-small R.CandidateLength = (omega arith, omega arith)
+number-small R.CandidateLead = (omega arith, omega arith)
+number-small (R.LineForm i) = (omega arith, omega arith)
+number-small (R.LineRange i) = (omega arith, omega arith)
+number-small R.CountsDiffer = (omega arith, omega arith)
+number-small R.MultipleAbove = (omega arith, omega arith)
+number-small (R.TermsDisagree i) = (omega arith, omega arith)
+number-small R.Period = (omega arith, omega arith)
+number-small R.Census = (omega arith, omega arith)
+number-small R.Batch = (omega arith, omega arith)
+
+-- so a refusal is told from an answer that is not refused by the lowest byte
+pub code-number : (r : Refusal) → codeOf (refusal r) % 256 ≡ refusal r .number
+code-number r = omega (arith, number-small r .1)
+
+pub code-refused : (r : Refusal) → codeOf (refusal r) % 256 ≡ 0 → ⊥
+code-refused r h = omega (arith, code-number r, number-small r .0)

@@ -1,9 +1,9 @@
 -- `refused` meets its contract: the number, and 256 times the place.
 -- Assumes nothing.
 use borrow.Author.Needs.{needs}
-use Rattle.diverthrone.proofs.Laws.{placed-code, plain-code}
-use Rattle.diverthrone.proofs.refused.Statement.{statement}
-use Rattle.diverthrone.proofs.refused.Tie as tie
+use Rattle.codes.proofs.Laws.{placed-code, plain-code}
+use Rattle.codes.proofs.refused.Statement.{statement}
+use Rattle.codes.proofs.refused.Tie as tie
 
 number-requires : tie.Need-number-requires
 number-requires c κs = search needs

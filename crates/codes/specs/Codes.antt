@@ -1,4 +1,4 @@
--- An answer as one number for C: the refusal's number and 256 times a value.
+-- An answer as one number, for C and in the replies of a batch: the refusal's number and 256 times a value.
 -- Assumes nothing.
 use mathlib.Core.List.{List, [], _∷_}
 use Prim.Native.Nat.{ℕ, zero, suc, _+_, _*_, min}
@@ -24,3 +24,11 @@ codeOf x = codeBy suc x
 -- where it always has one, a length, that is told as it is
 abbrev pub lengthCodeOf : Answer → ℕ
 lengthCodeOf x = codeBy (λ l. l) x
+
+-- where it has several, counts below 256, they are the digits of one number to the base 256, the first one the lowest
+abbrev pub digits : List ℕ → ℕ
+digits [] = 0
+digits (v ∷ vs) = v + 256 * digits vs
+
+abbrev pub countsCodeOf : Answer → ℕ
+countsCodeOf x = x .number + 256 * digits (x .values)

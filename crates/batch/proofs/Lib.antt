@@ -1,0 +1,6 @@
+pub mod Parts
+pub mod Turns
+pub mod Holding
+pub mod Marks
+pub mod Counting
+pub mod Whole

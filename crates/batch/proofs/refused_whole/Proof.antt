@@ -1,0 +1,20 @@
+-- `batch::refused_whole` meets its contract: it makes the three tests.
+-- Assumes nothing.
+use Rattle.batch.specs.Rules.{refusedWhole}
+use borrow.Author.Needs.{needs}
+use borrow.Author.Needs.{needs}
+use Rattle.batch.proofs.refused_whole.Statement.{statement}
+use Rattle.batch.proofs.refused_whole.Tie as tie
+
+fits-requires : tie.Need-fits-requires
+fits-requires c κs = search needs
+
+refused-by-requires : tie.Need-refused-by-requires
+refused-by-requires c κs = search needs
+
+returns : tie.Need-returns
+unfolding refusedWhole
+returns c = rw (← c .before .fits2 .ensures) (c .refused-by .ensures)
+
+pub refused-whole-spec : {M : Type 1} → statement M
+refused-whole-spec = tie.close (tie.spec fits-requires refused-by-requires returns)

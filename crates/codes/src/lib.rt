@@ -1,0 +1,33 @@
+// An answer as one number: the refusal's number and 256 times a value. So C gets a reply, and so a batch tells that of each query.
+use sequence::Place;
+use sequence::Refusal;
+ghost use mathlib.Core.Path.{_≡_};
+ghost use Prim.Native.Nat.{_≤_, min};
+ghost use Rattle.sequence.specs.Answers.{refusal};
+ghost use Rattle.codes.specs.Codes.{lastPlace, codeOf};
+
+// 2^56 - 1: the last place that fits beside the number of a refusal.
+const LAST_PLACE: u64 = 72057594037927935;
+
+// A place as a value: itself, in every line that a machine can hold.
+fn told(i: usize) -> u64
+    ensures { λ n. ⌜ (n ≡ min i lastPlace) × (n ≤ lastPlace) ⌝ }
+{
+    let place = i as u64;
+    if place < LAST_PLACE {
+        return place;
+    }
+    LAST_PLACE
+}
+
+// A refusal by its number, with its place as the value.
+pub fn refused(r: Refusal) -> u64
+    ensures { λ n. ⌜ n ≡ codeOf (refusal r) ⌝ }
+{
+    let n = sequence::number(r);
+    let p = sequence::place_of(r);
+    match p {
+        Place::At(i) => n + 256 * told(i),
+        Place::Nowhere => n,
+    }
+}
