@@ -7,6 +7,7 @@
 // Two queries are merged by the C interface. FLINT merges at coprime moduli only, from terms in its own form.
 // The length of a binary sequence is found from one period by the C interface, and without that call from the terms of two.
 // All sequences of n terms are tallied by one call of the C interface, and without it by a number and a record for each of them.
+// 16 queries are looked up in one batch, and one by one.
 #include <NTL/lzz_pX.h>
 #include <diverthrone.h>
 #include <flint/flint.h>
@@ -37,6 +38,7 @@ uint64_t strtol_read_line(const char *line, uint8_t *query);
 uint64_t plain_merge(const uint8_t *first, size_t first_len, const uint8_t *second, size_t second_len, uint8_t *query, size_t query_len);
 uint64_t array_period_length(const uint8_t *cells, size_t cells_len);
 uint64_t word_period_length(const uint8_t *cells, size_t cells_len);
+void plain_batch(const uint8_t *queries, size_t count, const uint8_t *catalogue, size_t records, uint8_t *out, uint64_t *replies);
 }
 
 // A round times a batch of calls of each entry, all on the same sequences. Each round has other sequences and another order of the
@@ -507,6 +509,82 @@ static void census() {
     census_of(2048, 1), census_of(2310, 1), census_of(4095, 1);
 }
 
+// ---- batches
+
+static const size_t QUERIES = DIVERTHRONE_MAX_QUERIES, SHELF = 20000;
+static std::vector<uint8_t> shelf(RECORD * SHELF);
+static uint8_t bundle[QUERIES][260], records[QUERIES][RECORD], single_records[QUERIES][RECORD], plain_records[QUERIES][RECORD];
+static uint64_t replies[QUERIES], single_replies[QUERIES], plain_replies[QUERIES];
+
+static uint64_t by_batch(uint64_t who) {
+    return diverthrone_look_up_batch(bundle[0], sizeof bundle, shelf.data(), shelf.size(), who, records[0], sizeof records, replies, QUERIES);
+}
+
+static void by_single_calls(uint64_t who) {
+    for (size_t i = 0; i < QUERIES; i++)
+        single_replies[i] = diverthrone_look_up(bundle[i], 260, shelf.data(), shelf.size(), who, single_records[i], RECORD);
+}
+
+static void by_plain_batch() { plain_batch(bundle[0], QUERIES, shelf.data(), SHELF, plain_records[0], plain_replies); }
+
+// 128 random terms modulo 4093; with `shared` the first four are the same in every query.
+static void random_query(uint8_t *query, bool shared) {
+    for (size_t i = 0; i < 130; i++) {
+        uint32_t x = i == 0 ? 4093 : i == 1 ? 128 : shared && i < 6 ? 1000 + (uint32_t)i : below(4093);
+        query[2 * i] = x & 255, query[2 * i + 1] = x >> 8;
+    }
+}
+
+// Each record has an accession number.
+static void fill_shelf(bool shared) {
+    for (size_t i = 0; i < SHELF; i++) {
+        uint8_t query[260], *place = &shelf[RECORD * i];
+        random_query(query, shared);
+        diverthrone_synthesize(query, 260, place, RECORD);
+        place[DIVERTHRONE_NUMBER_PLACE] = (uint8_t)(1 + i % 255);
+    }
+}
+
+// Every reply and every byte of the batch is that of a single call; the C version finds the same records, with their numbers.
+static bool batch_agrees(uint64_t who, size_t hits) {
+    memset(records, 255, sizeof records), memset(single_records, 0, sizeof single_records), memset(plain_records, 0, sizeof plain_records);
+    const uint64_t reply = by_batch(who);
+    by_single_calls(who), by_plain_batch();
+    if (reply != 256 * (hits + 256 * (QUERIES - hits)) || memcmp(records, single_records, sizeof records)) return false;
+    if (memcmp(replies, single_replies, sizeof replies) || memcmp(replies, plain_replies, sizeof replies)) return false;
+    for (size_t i = 0; i < QUERIES; i++)
+        if (replies[i] && memcmp(records[i], plain_records[i], who == 1 ? RECORD : DIVERTHRONE_NUMBER_PLACE)) return false;
+    return true;
+}
+
+// So many of the queries are found, at places spread from the first tenth of the catalogue to its last record.
+static void batch_of(size_t hits, bool shared, const char *kind) {
+    for (size_t i = 0; i < QUERIES; i++) {
+        random_query(bundle[i], shared);
+        if (i < hits) memcpy(bundle[i], &shelf[RECORD * (SHELF - 1 - (hits - 1 - i) * (SHELF - SHELF / 10) / hits)], 260);
+    }
+    if (!batch_agrees(0, hits) || !batch_agrees(1, hits)) printf("look_up_batch, %s: DIFFER\n", kind), exit(1);
+    auto t = measure({{"batch", [](int) { by_batch(0); }},
+                      {"single", [](int) { by_single_calls(0); }},
+                      {"plain", [](int) { by_plain_batch(); }},
+                      {"editor", [](int) { by_batch(1); }}},
+                     41, 1);
+    printf("  %2zu  %.2f  %.2f  %.2f  %.0f  %.0f  %s\n", hits, t[0] / t[1], t[0] / t[2], t[3] / t[0], t[0], t[1], kind);
+}
+
+static void batches() {
+    printf("look_up_batch of %zu queries, so many found, in %zu records: / single look_ups, / C loop over memcmp, editor / visitor, us, us for single\n",
+           QUERIES, SHELF);
+    fill_shelf(false);
+    batch_of(12, false, "spread");
+    batch_of(16, false, "spread");
+    batch_of(0, false, "all missing");
+    fill_shelf(true);
+    batch_of(1, false, "all records have the first four terms of one query");
+    batch_of(12, true, "all records have the first four terms of all queries");
+    batch_of(0, true, "the same, all missing");
+}
+
 int main() {
     primes();
     composites();
@@ -518,4 +596,5 @@ int main() {
     merges();
     periods();
     census();
+    batches();
 }

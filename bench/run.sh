@@ -13,5 +13,6 @@ rt staticlib diverthrone
 "$compiler" -O3 -std=c11 -c bench/lines.c -o "$work/lines.o"
 "$compiler" -O3 -std=c11 -c bench/merge.c -o "$work/merge.o"
 "$compiler" -O3 -std=c11 -c bench/period.c -o "$work/period.o"
-g++ -O3 -std=c++17 -Iinclude -o "$work/bench" bench/bench.cc "$work/plain.o" "$work/tricks.o" "$work/lines.o" "$work/merge.o" "$work/period.o" target/staticlib/libtiming.a target/staticlib/libdiverthrone.a -lntl -lflint -lgmp -lpthread
+"$compiler" -O3 -std=c11 -c bench/batch.c -o "$work/batch.o"
+g++ -O3 -std=c++17 -Iinclude -o "$work/bench" bench/bench.cc "$work/plain.o" "$work/tricks.o" "$work/lines.o" "$work/merge.o" "$work/period.o" "$work/batch.o" target/staticlib/libtiming.a target/staticlib/libdiverthrone.a -lntl -lflint -lgmp -lpthread
 "$work/bench"

@@ -391,55 +391,70 @@ fn held(operation: Operation, number: u32, list: &[u8]) -> Call {
     Call { operation, fill: 0xee, number, lengths, l: 0, payload: list.to_vec() }
 }
 
-/// Each call with its line. The hashes were computed apart from this program, from the bytes that
-/// the papers ask for: those of README.md among them.
-fn script() -> Vec<(Call, &'static str)> {
-    let four = [slip(&case_3([0, 0])), slip(&case_8()), wrong(&[(8, 9), (12, 9)])];
-    let four = [four.concat(), slip(&case_6([0, 0]))].concat();
-    let (one, shelf) = (slip(&case_3([0, 0])), shelf());
-    let filled = |call: Call| Call { fill: 0xee, ..call };
-    let ask = |who, slips: &[u8], shelf: &[u8]| filled(asking(who, slips, shelf));
-    let lend = |slips: &[u8], records, replies| filled(lending(1, slips, &shelf, records, replies));
-    let mixed = "look_up_batch found 2 made 1 refused 1 e1ffc560 0f4aa0fd";
+/// 6,3,1,5,6 modulo 9, 3,3 modulo 6, a slip that gets 3 at 2, and 2,1 modulo 4.
+fn four() -> Vec<u8> {
+    let three = [slip(&case_3([0, 0])), slip(&case_8()), wrong(&[(8, 9), (12, 9)])];
+    [three.concat(), slip(&case_6([0, 0]))].concat()
+}
+
+fn filled(call: Call) -> Call {
+    Call { fill: 0xee, ..call }
+}
+
+/// Each bundle that is served, with its line after the name. The hashes were computed apart from
+/// this program, from the bytes that the papers ask for: those of README.md among them.
+fn served_lines() -> Vec<(Call, &'static str)> {
+    let ask = |who, slips: &[u8]| filled(asking(who, slips, &shelf()));
+    let (one, mixed) = (slip(&case_3([0, 0])), "found 2 made 1 refused 1 e1ffc560 0f4aa0fd");
+    let none = "found 0 made 0 refused 0 811c9dc5 811c9dc5";
     let refused = [wrong(&[(2, 129)]), wrong(&[(2, 128), (258, 9)]), wrong(&[(259, 1)])].concat();
     let bad = [slip(&bad_12()), slip(&case_8())].concat();
+    let sixteen = wrong(&[(0, 1)]).repeat(16);
     vec![
-        (held(Operation::Open, 9, &[]), "open ok 50315e8c"),
-        (ask(1, &four, &shelf), "look_up_batch found 2 made 1 refused 1 36138854 0f4aa0fd"),
-        (ask(257, &four, &shelf), mixed),
-        (ask(0, &four, &shelf), mixed),
-        (ask(65_537, &four, &shelf), mixed),
-        (ask(u32::MAX, &four, &shelf), mixed),
-        (ask(1, &[], &shelf), "look_up_batch found 0 made 0 refused 0 811c9dc5 811c9dc5"),
-        (ask(0, &[], &[]), "look_up_batch found 0 made 0 refused 0 811c9dc5 811c9dc5"),
-        (ask(0, &bad, &shelf), "look_up_batch found 0 made 1 refused 1 60e2d501 51fd4f1d"),
-        (
-            ask(1, &one.repeat(16), &shelf),
-            "look_up_batch found 16 made 0 refused 0 335585c5 6c71b1c5",
-        ),
-        (
-            ask(2, &one.repeat(16), &shelf),
-            "look_up_batch found 16 made 0 refused 0 826deac5 6c71b1c5",
-        ),
-        (
-            ask(1, &wrong(&[(0, 1)]).repeat(16), &shelf),
-            "look_up_batch found 0 made 0 refused 16 72f23e45 020f3ec5",
-        ),
-        (ask(1, &refused, &shelf), "look_up_batch found 0 made 0 refused 3 12f1fb7d c6a2f205"),
-        (ask(1, &one.repeat(17), &shelf), "look_up_batch refused 34 bdfb9ead 68456365"),
-        (ask(0, &one.repeat(17), &shelf[1..]), "look_up_batch refused 34 bdfb9ead 68456365"),
-        (ask(1, &one.repeat(84), &shelf), "look_up_batch refused 34 5fd8fe65 16b0a245"),
-        (ask(1, &four, &shelf[1..]), "look_up_batch refused 23 948379e5 635b1845"),
-        (ask(0, &four, &shelf[..776]), "look_up_batch refused 23 948379e5 635b1845"),
-        (ask(1, &[], &shelf[..776]), "look_up_batch refused 23 811c9dc5 811c9dc5"),
-        (lend(&four, 4 * 778 - 1, 4), "look_up_batch refused 5 8887a149 635b1845"),
-        (lend(&four, 4 * 776, 4), "look_up_batch refused 5 609f4845 635b1845"),
-        (lend(&four, 4 * 778, 3), "look_up_batch refused 5 948379e5 f3d770a5"),
-        (lend(&four[1..], 4 * 778, 4), "look_up_batch refused 5 948379e5 635b1845"),
-        (lend(&one.repeat(17), 16 * 778, 17), "look_up_batch refused 5 141b5a45 68456365"),
-        (lend(&one.repeat(17), 17 * 778, 16), "look_up_batch refused 5 bdfb9ead 3be31fc5"),
-        (held(Operation::PushAll, 0, &[]), "push_all taken 0 ok 50315e8c 811c9dc5"),
+        (ask(1, &four()), "found 2 made 1 refused 1 36138854 0f4aa0fd"),
+        (ask(257, &four()), mixed),
+        (ask(0, &four()), mixed),
+        (ask(65_537, &four()), mixed),
+        (ask(u32::MAX, &four()), mixed),
+        (ask(1, &[]), none),
+        (filled(asking(0, &[], &[])), none),
+        (ask(0, &bad), "found 0 made 1 refused 1 60e2d501 51fd4f1d"),
+        (ask(1, &one.repeat(16)), "found 16 made 0 refused 0 335585c5 6c71b1c5"),
+        (ask(2, &one.repeat(16)), "found 16 made 0 refused 0 826deac5 6c71b1c5"),
+        (ask(1, &sixteen), "found 0 made 0 refused 16 72f23e45 020f3ec5"),
+        (ask(1, &refused), "found 0 made 0 refused 3 12f1fb7d c6a2f205"),
     ]
+}
+
+/// The same for those that are refused as a whole.
+fn refused_lines() -> Vec<(Call, &'static str)> {
+    let (one, four, shelf) = (slip(&case_3([0, 0])), four(), shelf());
+    let ask = |who, slips: &[u8], shelf: &[u8]| filled(asking(who, slips, shelf));
+    let lend = |slips: &[u8], records, replies| filled(lending(1, slips, &shelf, records, replies));
+    vec![
+        (ask(1, &one.repeat(17), &shelf), "refused 34 bdfb9ead 68456365"),
+        (ask(0, &one.repeat(17), &shelf[1..]), "refused 34 bdfb9ead 68456365"),
+        (ask(1, &one.repeat(84), &shelf), "refused 34 5fd8fe65 16b0a245"),
+        (ask(1, &four, &shelf[1..]), "refused 23 948379e5 635b1845"),
+        (ask(0, &four, &shelf[..776]), "refused 23 948379e5 635b1845"),
+        (ask(1, &[], &shelf[..776]), "refused 23 811c9dc5 811c9dc5"),
+        (lend(&four, 4 * 778 - 1, 4), "refused 5 8887a149 635b1845"),
+        (lend(&four, 4 * 776, 4), "refused 5 609f4845 635b1845"),
+        (lend(&four, 4 * 778, 3), "refused 5 948379e5 f3d770a5"),
+        (lend(&four[1..], 4 * 778, 4), "refused 5 948379e5 635b1845"),
+        (lend(&one.repeat(17), 16 * 778, 17), "refused 5 141b5a45 68456365"),
+        (lend(&one.repeat(17), 17 * 778, 16), "refused 5 bdfb9ead 3be31fc5"),
+    ]
+}
+
+/// A script of these, between an opening and an empty column, which show the reading held.
+fn script() -> Vec<(Call, String)> {
+    let mut script = vec![(held(Operation::Open, 9, &[]), String::from("open ok 50315e8c"))];
+    let bundles = served_lines().into_iter().chain(refused_lines());
+    script.extend(bundles.map(|(call, line)| (call, format!("look_up_batch {line}"))));
+    let last = String::from("push_all taken 0 ok 50315e8c 811c9dc5");
+    script.push((held(Operation::PushAll, 0, &[]), last));
+    script
 }
 
 /// The lines one by one, the bytes of a call, and scripts that are cut inside it.
@@ -454,8 +469,7 @@ fn replayed(group: &mut Group) {
     // 1,040 bytes of slips, 3,112 of shelf and of records, four replies.
     let header = [16, 0xee, 0, 0, 1, 0, 0, 0, 0x10, 4, 0x28, 12, 0x28, 12, 4, 0];
     let (call, line) = &script[1];
-    let slips = [slip(&case_3([0, 0])), slip(&case_8()), wrong(&[(8, 9), (12, 9)])].concat();
-    let parts = [&header[..], &slips, &case_6([0, 0])[..260], &shelf()].concat();
+    let parts = [&header[..], &four(), &shelf()].concat();
     group.check(call.bytes() == parts, || format!("{:?}", call.bytes()));
     group.check(replay(&parts) == (format!("{line}\n"), true), || format!("{line}"));
     for cut in (1..40).chain([275, 276, 1055, 1056, 1057, 4167]) {

@@ -286,13 +286,13 @@ impl Met {
         if let Some((&first, later)) = wrong.split_first() {
             later.iter().for_each(|&next| count(&mut self.orders, (first, next)));
         }
-        let mut kinds = match wrong.first() {
+        let kinds = match wrong.first() {
             None => self.note_served(lent),
             Some(5) => kinds_of_5(lent, &wrong),
             Some(34) => kinds_of_34(lent, &wrong),
             Some(_) => kinds_of_23(lent),
         };
-        for (kind, applies) in kinds.drain(..) {
+        for (kind, applies) in kinds {
             *self.bundles.entry(kind).or_insert(0) += usize::from(applies);
         }
     }

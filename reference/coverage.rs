@@ -103,7 +103,11 @@ pub fn met(group: &mut Group) {
     numbersmet::lines_met(group, &lines);
     bundlesmet::met(group, &script);
     bundlesmet::by_hand_met(group, &script);
-    // Those by hand have each kind; without them it takes more.
+    met_at_random(group);
+}
+
+/// Those by hand have each kind; without them it takes more.
+fn met_at_random(group: &mut Group) {
     servings::met(group, &rounds(14, 2000));
     mergesmet::met(group, &merges::rounds(16, 40000));
     periodsmet::met(group, &periods::rounds(17, 40000));

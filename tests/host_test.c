@@ -2143,8 +2143,8 @@ static void make_kinds(int numbered) {
     kinds_alone();
 }
 
-/* A batch of these kinds; what was lent for writing has `fill` in each byte. */
-static void batch_filled(const unsigned *of, size_t n, uint64_t who, int fill, const char *what) {
+/* Lends a batch of these kinds, and room with `fill` in each byte; the reply that is due. */
+static uint64_t lend_these(const unsigned *of, size_t n, uint64_t who, int fill) {
     uint64_t found = 0, made = 0, refusals = 0;
     lend_batch(n, fill);
     for (size_t i = 0; i < n; i++) {
@@ -2154,10 +2154,12 @@ static void batch_filled(const unsigned *of, size_t n, uint64_t who, int fill, c
         batch.due_replies[GUARD + i] = reply;
         made += reply == 0, refusals += reply % 256 != 0, found += reply != 0 && reply % 256 == 0;
     }
-    batch_replies(who, counted(found, made, refusals), what);
+    return counted(found, made, refusals);
 }
 
-static void batch_of(const unsigned *of, size_t n, uint64_t who, const char *what) { batch_filled(of, n, who, 0x5A, what); }
+static void batch_of(const unsigned *of, size_t n, uint64_t who, const char *what) {
+    batch_replies(who, lend_these(of, n, who, 0x5A), what);
+}
 
 /* Each kind at each place of 16, among queries that are all found, made, or refused. */
 static void kinds_at_places(void) {
@@ -2218,14 +2220,21 @@ static void batches_for_all(void) {
     make_kinds(0);
 }
 
-/* What the two buffers held does not matter; with 0 a reply would be one of a record made, with 255 none that there is. */
+/* What the two buffers held does not matter: any byte everywhere, or what another batch has left there. */
 static void batches_in_any_room(void) {
+    const int step = every > 1 ? 17 : 1;
     unsigned of[KINDS];
     for (unsigned i = 0; i < KINDS; i++) of[i] = i;
-    const int step = every > 1 ? 17 : 1;
-    for (int fill = 0; fill < 256; fill += step) {
-        batch_filled(of, BATCH, fill % 2, fill, "whatever was lent, the first kinds");
-        batch_filled(of + KINDS - BATCH, BATCH, fill % 2, fill, "whatever was lent, the last kinds");
+    for (int fill = 0; fill < 256; fill += step)
+        for (size_t from = 0; from <= KINDS - BATCH; from += KINDS - BATCH)
+            batch_replies(fill % 2, lend_these(of + from, BATCH, fill % 2, fill), "whatever was lent");
+    for (size_t k = 0; k < KINDS; k++) {
+        uint64_t reply = lend_these(of + k % (KINDS - BATCH + 1), BATCH, k % 2, 0);
+        for (size_t i = 0; i < BATCH; i++) {
+            batch.replies[GUARD + i] = kinds[(i + k) % KINDS].reply;
+            memcpy(batch.records + GUARD + i * RECORD, kind_parts[1][(i + k) % KINDS], RECORD);
+        }
+        batch_replies(k % 2, reply, "in the room of another batch");
     }
 }
 
@@ -2525,10 +2534,11 @@ static void batch_at_odd_addresses(void) {
 /* What is only read may overlap: the query of a record, where it stands. */
 static void query_in_the_catalogue(void) {
     uint8_t record[RECORD];
-    uint64_t reply = 5;
+    uint64_t reply;
     called = "look_up_batch, of a query in the catalogue";
     for (size_t i = 0; i < 3; i++) {
         memset(record, 0x5A, RECORD);
+        reply = 5;
         uint64_t answer = diverthrone_look_up_batch(shelf + i * RECORD, QUERY, shelf, sizeof shelf, 1, record, RECORD, &reply, 1);
         check(answer == counted(1, 0, 0), "its record is found");
         check(reply == 256 * (1 + i) && memcmp(record, shelf + i * RECORD, RECORD) == 0, "at its place");

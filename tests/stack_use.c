@@ -25,6 +25,8 @@ enum {
     PERIOD,
     ENUMERATE,
     TALLY,
+    BATCH_MADE,
+    BATCH_FOUND,
     REGISTER,
     TRACE,
     KINDS
@@ -33,9 +35,9 @@ enum {
 uint64_t timing_register(uint32_t m, uint32_t count, const uint32_t *terms, uint8_t *a, size_t a_len, uint8_t *b, size_t b_len);
 uint64_t timing_trace(uint32_t m, uint32_t count, const uint32_t *terms, uint8_t *a, size_t a_len, uint8_t *b, size_t b_len);
 
-static const char *const names[KINDS] = {"no call",       "verify",    "generate",  "synthesize", "look_up made",
-                                         "look_up found", "editor",    "read_line", "merge",      "merge golden",
-                                         "period_length", "enumerate", "tally",     "register",   "trace"};
+static const char *const names[KINDS] = {"no call", "verify",     "generate",    "synthesize",   "look_up made",  "look_up found",
+                                         "editor",  "read_line",  "merge",       "merge golden", "period_length", "enumerate",
+                                         "tally",   "batch made", "batch found", "register",     "trace"};
 static uint8_t *stack, *caller;
 static uint8_t query[DIVERTHRONE_QUERY_BYTES], record[DIVERTHRONE_RECORD_BYTES], shelf[DIVERTHRONE_RECORD_BYTES], cells[2 * TERMS];
 static uint8_t a_cells[DIVERTHRONE_A_BYTES], b_cells[DIVERTHRONE_B_BYTES];
@@ -57,6 +59,10 @@ static uint64_t period_reply;
 /* So many terms, so many sequences of them; the query of the last one, and their tally. */
 static uint32_t census_terms, sequences;
 static uint8_t numbered[DIVERTHRONE_QUERY_BYTES], tallied[DIVERTHRONE_TALLY_BYTES];
+
+/* The query as often as a batch may have it, with what is written for it. */
+static uint8_t batch[DIVERTHRONE_MAX_QUERIES * DIVERTHRONE_QUERY_BYTES], batch_records[DIVERTHRONE_MAX_QUERIES * DIVERTHRONE_RECORD_BYTES];
+static uint64_t batch_replies[DIVERTHRONE_MAX_QUERIES];
 
 static uint32_t below(uint32_t n) {
     state = state * 6364136223846793005u + 1442695040888963407u;
@@ -84,6 +90,10 @@ static uint64_t enter(int kind) {
     case PERIOD: return diverthrone_period_length(period, sizeof period);
     case ENUMERATE: return diverthrone_enumerate(modulus, census_terms, sequences - 1, numbered, sizeof numbered);
     case TALLY: return diverthrone_tally(modulus, census_terms, tallied, sizeof tallied);
+    case BATCH_MADE:
+    case BATCH_FOUND:
+        return diverthrone_look_up_batch(batch, sizeof batch, shelf, kind == BATCH_MADE ? 0 : sizeof shelf, DIVERTHRONE_EDITOR, batch_records,
+                                         sizeof batch_records, batch_replies, DIVERTHRONE_MAX_QUERIES);
     case REGISTER: return (uint32_t)timing_register(modulus, TERMS, terms, a_cells, sizeof a_cells, b_cells, sizeof b_cells) != l;
     case TRACE: return timing_trace(modulus, TERMS, terms, a_cells, sizeof a_cells, b_cells, sizeof b_cells) == 0;
     default: return 0;
@@ -100,6 +110,8 @@ static uint64_t due_to(int kind) {
     case MERGE: return merges[0].reply;
     case GOLDEN: return merges[1].reply;
     case PERIOD: return period_reply;
+    case BATCH_MADE: return 256 * 256 * DIVERTHRONE_MAX_QUERIES;
+    case BATCH_FOUND: return 256 * DIVERTHRONE_MAX_QUERIES;
     default: return 0;
     }
 }
@@ -214,6 +226,16 @@ static void check_census(void) {
     need(counted == sequences, "the sum of the tally");
 }
 
+static void make_batch(void) {
+    for (size_t i = 0; i < DIVERTHRONE_MAX_QUERIES; i++) memcpy(batch + i * sizeof query, query, sizeof query);
+}
+
+/* The last batch found the record for each query. */
+static void check_batch(void) {
+    for (size_t i = 0; i < DIVERTHRONE_MAX_QUERIES; i++)
+        need(batch_replies[i] == 256 && memcmp(batch_records + i * sizeof shelf, shelf, sizeof shelf) == 0, "the records of the batch");
+}
+
 /* The largest depths for one modulus go up into `most`. */
 static void measure(uint32_t m, size_t most[KINDS]) {
     modulus = m;
@@ -223,6 +245,7 @@ static void measure(uint32_t m, size_t most[KINDS]) {
         make_merges();
         make_period();
         make_census(shape);
+        make_batch();
         need(diverthrone_synthesize(query, sizeof query, shelf, sizeof shelf) == 0, "a record for the catalogue");
         for (int kind = 0; kind < KINDS; kind++) {
             size_t d = depth(kind);
@@ -230,6 +253,7 @@ static void measure(uint32_t m, size_t most[KINDS]) {
         }
         need(memcmp(typed, query, sizeof query) == 0, "the query of the line");
         check_census();
+        check_batch();
         for (int i = 0; i < 2; i++) need(memcmp(merges[i].merged, merges[i].want, sizeof query) == 0, "the merged query");
     }
 }

@@ -1,5 +1,6 @@
 /* For a visitor no accession number is read, and for nobody before a record is found: the number of a lone record stands on a page that
- * cannot be touched. No promise says so: contracts do not speak of what a call reads on the way. */
+ * cannot be touched. A batch copies a record whole when a query of it meets it, and hides the number later; there only the number of a record
+ * that no query takes is not read. No promise says so: contracts do not speak of what a call reads on the way. */
 #define _DEFAULT_SOURCE
 #include "diverthrone.h"
 
@@ -15,7 +16,7 @@ enum { QUERY = DIVERTHRONE_QUERY_BYTES, RECORD = DIVERTHRONE_RECORD_BYTES, NUMBE
 static uint8_t query[QUERY] = {9, 0, 5, 0, 6, 0, 3, 0, 1, 0, 5, 0, 6, 0}, served[RECORD];
 static uint8_t *catalogue;
 static sigjmp_buf before;
-static int failures;
+static int checks, failures;
 
 static void trapped(int signal_number) {
     (void)signal_number;
@@ -33,13 +34,25 @@ static int forbid(void) {
     return mprotect(forbidden, page, PROT_NONE) == 0;
 }
 
+static uint64_t alone(uint64_t who) { return diverthrone_look_up(query, QUERY, catalogue, RECORD, who, served, RECORD); }
+
+/* The query as the second of a batch of two; the first has no terms, and its record is made. */
+static uint64_t in_batch(uint64_t who) {
+    static uint8_t queries[2 * QUERY] = {2}, records[2 * RECORD];
+    uint64_t replies[2];
+    memcpy(queries + QUERY, query, QUERY);
+    uint64_t reply = diverthrone_look_up_batch(queries, sizeof queries, catalogue, RECORD, who, records, sizeof records, replies, 2);
+    return diverthrone_refusal(reply) == 0 && replies[0] == 0 ? replies[1] : UINT64_MAX;
+}
+
 /* Whether the call touches the number; if it does not, its reply must be this one. */
-static void look_up(uint64_t who, int touches, uint64_t expected, const char *what) {
+static void look_up(uint64_t (*call)(uint64_t), uint64_t who, int touches, uint64_t expected, const char *what) {
     volatile uint64_t reply = 0;
     volatile int touched = 1;
     memset(served, 7, RECORD);
+    checks++;
     if (sigsetjmp(before, 1) == 0) {
-        reply = diverthrone_look_up(query, QUERY, catalogue, RECORD, who, served, RECORD);
+        reply = call(who);
         touched = 0;
     }
     if (touched == touches && (touched || reply == expected)) return;
@@ -53,14 +66,18 @@ int main(void) {
     memset(&action, 0, sizeof action);
     action.sa_handler = trapped;
     if (sigaction(SIGSEGV, &action, NULL) != 0 || sigaction(SIGBUS, &action, NULL) != 0 || !forbid()) return 2;
-    for (size_t i = 0; i < 4; i++) look_up(visitors[i], 0, 256, "a visitor finds the record without its number");
-    look_up(1, 1, 0, "an editor is shown the number");
+    for (size_t i = 0; i < 4; i++) look_up(alone, visitors[i], 0, 256, "a visitor finds the record without its number");
+    look_up(alone, 1, 1, 0, "an editor is shown the number");
+    look_up(in_batch, 1, 1, 0, "an editor is shown the number in a batch");
     query[4] = 5;
-    look_up(0, 0, 0, "a record is made past one whose number is not read");
-    look_up(1, 0, 0, "for an editor too");
+    for (uint64_t who = 0; who < 2; who++) {
+        look_up(alone, who, 0, 0, "a record is made past one whose number is not read");
+        look_up(in_batch, who, 0, 0, "a record is made past one whose number is not read, in a batch");
+    }
     query[4] = 6, catalogue[DIVERTHRONE_A_PLACE] = 2;
-    look_up(0, 0, 24, "24 without the number");
-    look_up(1, 0, 24, "for an editor too");
-    printf("unread test: 9 checks, %d failed\n", failures);
+    for (uint64_t who = 0; who < 2; who++) look_up(alone, who, 0, 24, "24 without the number");
+    query[0] = 1, catalogue[0] = 1;
+    for (uint64_t who = 0; who < 2; who++) look_up(in_batch, who, 0, 1, "a query that is refused takes no record, in a batch");
+    printf("unread test: %d checks, %d failed\n", checks, failures);
     return failures != 0;
 }

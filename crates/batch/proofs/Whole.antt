@@ -18,10 +18,12 @@ use Rattle.sequence.specs.declared.Refusal.the-variants as R
 use Rattle.sequence.specs.declared.Outcome.{Outcome}
 use Rattle.sequence.specs.declared.Outcome.the-variants as O
 use Rattle.sequence.specs.Limits.{queryBytes}
-use Rattle.sequence.specs.Answers.{granted, refused, firstOf}
+use Rattle.sequence.specs.Answers.{granted, refused, refusal, outcomeAnswer, firstOf}
 use Rattle.sequence.specs.Rules.{checkOf}
 use Rattle.catalogue.specs.Rules.{recordBytes, recordAt, records}
 use Rattle.catalogue.proofs.Laws.{cut-record}
+use Rattle.codes.specs.Codes.{codeOf, countsCodeOf}
+use Rattle.codes.proofs.Laws.{counts-refused}
 use Rattle.batch.specs.declared.Batch.{Batch}
 use Rattle.batch.specs.Rules.{maxQueries, queryAt, queriesIn, aloneOf, partOf, replyCode, isFound, isMade, isRefused, countOf, fits, refusedBy, refusedWhole, replyBy, lookUpBatchOf, answerBy, batchAnswer, lookUpBatchAnswer, endToEnd, partsIn, repliesIn}
 use Rattle.batch.specs.Walk.{heldOf, heldPart, checkCode, offeredPart, offeredCode, Holding, Offered, Answered, settledPart, settledCode, Settled, ofKind}
@@ -193,13 +195,50 @@ module _ (queries catalogue out replies : List ℕ) (who : ℕ) where
 -- ---- the counts
 
 -- together the counts are no more than the queries that a batch may hold
-pub counts-small : (queries catalogue out replies : List ℕ) → let b = lookUpBatchOf queries catalogue out replies in b .found + b .made + b .refused ≤ maxQueries
-counts-small queries catalogue out replies = go (refusedWhole (length queries) (length catalogue) (length out) (length replies)) refl
+pub counts-small :
+    (queries catalogue out replies : List ℕ) {b : Batch} → b ≡ lookUpBatchOf queries catalogue out replies → b .found + b .made + b .refused ≤ maxQueries
+counts-small queries catalogue out replies {b} same = go (refusedWhole (length queries) (length catalogue) (length out) (length replies)) refl
   where
-    go : (o : Outcome) → refusedWhole (length queries) (length catalogue) (length out) (length replies) ≡ o
-        → let b = lookUpBatchOf queries catalogue out replies in b .found + b .made + b .refused ≤ maxQueries
+    go : (o : Outcome) → refusedWhole (length queries) (length catalogue) (length out) (length replies) ≡ o → b .found + b .made + b .refused ≤ maxQueries
     go O.Done e =
-        subst (λ (b : Batch). b .found + b .made + b .refused ≤ maxQueries) (sym (reply queries catalogue out replies 0 O.Done e))
+        subst (λ (b : Batch). b .found + b .made + b .refused ≤ maxQueries) (sym (same ∙ reply queries catalogue out replies 0 O.Done e))
         (omega (arith, all-counted queries catalogue, done-right (length queries) (length catalogue) (length out) (length replies) e .few))
     go (O.Refused r) e =
-        subst (λ (b : Batch). b .found + b .made + b .refused ≤ maxQueries) (sym (reply queries catalogue out replies 0 (O.Refused r) e)) (omega arith)
+        subst (λ (b : Batch). b .found + b .made + b .refused ≤ maxQueries) (sym (same ∙ reply queries catalogue out replies 0 (O.Refused r) e)) (omega arith)
+
+-- ---- the refusals of the whole call
+
+-- none of them carries a place
+pub refused-plain : (queries catalogue out replies : List ℕ) {r : Refusal} → lookUpBatchOf queries catalogue out replies .outcome ≡ O.Refused r → refusal r .values ≡ []
+unfolding lookUpBatchOf refusedWhole
+refused-plain queries catalogue out replies {r} h =
+    go (not (fits (length queries) (length out) (length replies))) (ltb maxQueries (queriesIn queries)) (not (eqb (length catalogue % recordBytes) 0)) h
+  where
+    go : (f m u : Bool) → replyBy (refusedBy f m u) (countOf isFound queries catalogue) (countOf isMade queries catalogue) (countOf isRefused queries catalogue) .outcome ≡ O.Refused r
+        → refusal r .values ≡ []
+    go true m u e = sym (ap (λ (o : Outcome). outcomeAnswer o .values) e)
+    go false true u e = sym (ap (λ (o : Outcome). outcomeAnswer o .values) e)
+    go false false true e = sym (ap (λ (o : Outcome). outcomeAnswer o .values) e)
+    go false false false e = sym (ap (λ (o : Outcome). outcomeAnswer o .values) e)
+
+-- ---- the reply as one number
+
+module _ (queries catalogue out replies : List ℕ) {b : Batch} (same : b ≡ lookUpBatchOf queries catalogue out replies) where
+  pub done-code :
+      {n : ℕ} → n ≡ countsCodeOf (granted (b .found ∷ b .made ∷ b .refused ∷ [])) → b .outcome ≡ O.Done → batchAnswer b ≡ lookUpBatchAnswer queries catalogue out replies
+      → n ≡ countsCodeOf (lookUpBatchAnswer queries catalogue out replies)
+  done-code e k x = e ∙ ap (λ (o : Outcome). countsCodeOf (answerBy o (b .found) (b .made) (b .refused))) (sym k) ∙ ap countsCodeOf x
+
+  pub refused-code :
+      {n : ℕ} (r : Refusal) → n ≡ codeOf (refusal r) → b .outcome ≡ O.Refused r → batchAnswer b ≡ lookUpBatchAnswer queries catalogue out replies
+      → n ≡ countsCodeOf (lookUpBatchAnswer queries catalogue out replies)
+  refused-code r e k x =
+      e ∙ counts-refused r (refused-plain queries catalogue out replies (ap (λ (z : Batch). z .outcome) (sym same) ∙ k))
+      ∙ ap (λ (o : Outcome). countsCodeOf (answerBy o (b .found) (b .made) (b .refused))) (sym k)
+      ∙ ap countsCodeOf x
+
+  pub records-told : (who : ℕ) {x : List ℕ} → x ≡ partsIn who b queries catalogue out → x ≡ partsIn who (lookUpBatchOf queries catalogue out replies) queries catalogue out
+  records-told who e = e ∙ ap (λ (z : Batch). partsIn who z queries catalogue out) same
+
+  pub replies-told : {x : List ℕ} → x ≡ repliesIn b queries catalogue replies → x ≡ repliesIn (lookUpBatchOf queries catalogue out replies) queries catalogue replies
+  replies-told e = e ∙ ap (λ (z : Batch). repliesIn z queries catalogue replies) same

@@ -9,7 +9,7 @@ use Rattle.sequence.specs.declared.Refusal.the-variants as R
 use Rattle.sequence.specs.declared.Place.{Place}
 use Rattle.sequence.specs.declared.Place.the-variants.{At, Nowhere}
 use Rattle.sequence.specs.Answers.{granted, refusal, placed}
-use Rattle.codes.specs.Codes.{lastPlace, valueBy, codeOf, lengthCodeOf}
+use Rattle.codes.specs.Codes.{lastPlace, valueBy, codeOf, lengthCodeOf, digits, countsCodeOf}
 
 -- a value without a refusal
 pub valued : (v : ℕ) → 256 * (1 + v) ≡ codeOf (granted (v ∷ []))
@@ -93,3 +93,11 @@ code-number r = omega (arith, number-small r .1)
 
 pub code-refused : (r : Refusal) → codeOf (refusal r) % 256 ≡ 0 → ⊥
 code-refused r h = omega (arith, code-number r, number-small r .0)
+
+-- three counts, and a refusal without a place where counts are told
+pub counts-valued : (x y z : ℕ) → 256 * x + 65536 * y + 16777216 * z ≡ countsCodeOf (granted (x ∷ y ∷ z ∷ []))
+counts-valued x y z = omega arith
+
+pub counts-refused : (r : Refusal) → refusal r .values ≡ [] → codeOf (refusal r) ≡ countsCodeOf (refusal r)
+counts-refused r h =
+    ap (λ (vs : List ℕ). refusal r .number + 256 * valueBy suc (refusal r .number) vs) h ∙ ap (λ (vs : List ℕ). refusal r .number + 256 * digits vs) (sym h)

@@ -2,9 +2,10 @@
 use sequence::Place;
 use sequence::Refusal;
 ghost use mathlib.Core.Path.{_≡_};
-ghost use Prim.Native.Nat.{_≤_, min};
-ghost use Rattle.sequence.specs.Answers.{refusal};
-ghost use Rattle.codes.specs.Codes.{lastPlace, codeOf};
+ghost use mathlib.Core.List.{[], _∷_};
+ghost use Prim.Native.Nat.{_≤_, _<_, min};
+ghost use Rattle.sequence.specs.Answers.{granted, refusal};
+ghost use Rattle.codes.specs.Codes.{lastPlace, codeOf, countsCodeOf};
 
 // 2^56 - 1: the last place that fits beside the number of a refusal.
 const LAST_PLACE: u64 = 72057594037927935;
@@ -30,4 +31,12 @@ pub fn refused(r: Refusal) -> u64
         Place::At(i) => n + 256 * told(i),
         Place::Nowhere => n,
     }
+}
+
+// Three counts of an answer that is not refused, each in a byte.
+pub fn counts(first: usize, second: usize, third: usize) -> u64
+    requires { ⌜ (first < 256) × (second < 256) × (third < 256) ⌝ }
+    ensures { λ n. ⌜ n ≡ countsCodeOf (granted (first ∷ second ∷ third ∷ [])) ⌝ }
+{
+    256 * (first as u64) + 65536 * (second as u64) + 16777216 * (third as u64)
 }

@@ -12,7 +12,8 @@ ghost use Rattle.lines.specs.Reply.{readOf, readAnswer, queryIn};
 ghost use Rattle.merge.specs.Rules.{mergeOf, mergeAnswer, mergedIn};
 ghost use Rattle.period.specs.Rules.{periodLengthAnswer};
 ghost use Rattle.enumeration.specs.Rules.{enumerateOf, enumerateAnswer, queryNumbered, tallyOf, tallyAnswer, tallyCells};
-ghost use Rattle.codes.specs.Codes.{codeOf, lengthCodeOf};
+ghost use Rattle.batch.specs.Rules.{lookUpBatchOf, lookUpBatchAnswer, partsIn, repliesIn};
+ghost use Rattle.codes.specs.Codes.{codeOf, lengthCodeOf, countsCodeOf};
 
 // Makes the record of a query.
 // Rejected: one that refuses every query; one that writes the query's bytes before it refuses.
@@ -152,6 +153,28 @@ pub extern "C" fn diverthrone_tally(modulus: u32, count: u32, cells: &mut [u8]) 
     let o = enumeration::tally(modulus, count, cells);
     match o {
         Outcome::Done => 0,
+        Outcome::Refused(r) => codes::refused(r),
+    }
+}
+
+// Looks up a batch of queries in one walk along a catalogue. Each query's reply is the one that diverthrone_look_up gives it alone.
+// Rejected: one that tells made before found; one that cuts who asks to 32 bits; one that clears the records before it refuses.
+#[no_mangle]
+pub extern "C" fn diverthrone_look_up_batch(
+    queries: &[u8],
+    catalogue: &[u8],
+    who: u64,
+    records: &mut [u8],
+    replies: &mut [u64],
+) -> u64
+    ensures { λ r. ⌜ r ≡ countsCodeOf (lookUpBatchAnswer (now (queries .entry)) (now (catalogue .entry)) (now (records .entry)) (now (replies .entry))) ⌝ }
+    ensures { λ r. ⌜ now (records .exit) ≡ partsIn who (lookUpBatchOf (now (queries .entry)) (now (catalogue .entry)) (now (records .entry)) (now (replies .entry))) (now (queries .entry)) (now (catalogue .entry)) (now (records .entry)) ⌝ }
+    ensures { λ r. ⌜ now (replies .exit) ≡ repliesIn (lookUpBatchOf (now (queries .entry)) (now (catalogue .entry)) (now (records .entry)) (now (replies .entry))) (now (queries .entry)) (now (catalogue .entry)) (now (replies .entry)) ⌝ }
+{
+    let b = batch::look_up_batch(queries, catalogue, who, records, replies);
+    let o = b.outcome;
+    match o {
+        Outcome::Done => codes::counts(b.found, b.made, b.refused),
         Outcome::Refused(r) => codes::refused(r),
     }
 }
