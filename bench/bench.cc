@@ -557,11 +557,12 @@ static bool batch_agrees(uint64_t who, size_t hits) {
     return true;
 }
 
-// So many of the queries are found, at places spread from the first tenth of the catalogue to its last record.
-static void batch_of(size_t hits, bool shared, const char *kind) {
+// So many of the queries are found, so far apart, the first of them at the last record. A single call ends where it finds its record, so what
+// single calls take depends on that.
+static void batch_of(size_t hits, size_t apart, bool shared, const char *kind) {
     for (size_t i = 0; i < QUERIES; i++) {
         random_query(bundle[i], shared);
-        if (i < hits) memcpy(bundle[i], &shelf[RECORD * (SHELF - 1 - (hits - 1 - i) * (SHELF - SHELF / 10) / hits)], 260);
+        if (i < hits) memcpy(bundle[i], &shelf[RECORD * (SHELF - 1 - i * apart)], 260);
     }
     if (!batch_agrees(0, hits) || !batch_agrees(1, hits)) printf("look_up_batch, %s: DIFFER\n", kind), exit(1);
     auto t = measure({{"batch", [](int) { by_batch(0); }},
@@ -576,13 +577,14 @@ static void batches() {
     printf("look_up_batch of %zu queries, so many found, in %zu records: / single look_ups, / C loop over memcmp, editor / visitor, us, us for single\n",
            QUERIES, SHELF);
     fill_shelf(false);
-    batch_of(12, false, "spread");
-    batch_of(16, false, "spread");
-    batch_of(0, false, "all missing");
+    batch_of(12, SHELF / 12, false, "spread over the catalogue, the others missing");
+    batch_of(16, SHELF / 16, false, "spread over the catalogue");
+    batch_of(16, 7, false, "at its end");
+    batch_of(0, 0, false, "all missing");
     fill_shelf(true);
-    batch_of(1, false, "all records have the first four terms of one query");
-    batch_of(12, true, "all records have the first four terms of all queries");
-    batch_of(0, true, "the same, all missing");
+    batch_of(1, 0, false, "at its end, all records with that query's first four terms, the others missing");
+    batch_of(12, SHELF / 12, true, "spread, all records with the first four terms of all queries");
+    batch_of(0, 0, true, "all missing, all records with the first four terms of all queries");
 }
 
 int main() {

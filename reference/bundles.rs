@@ -1,7 +1,7 @@
 //! A script of bundles of slips (02, A12): first each size, each kind of slip at each place, each
 //! kind of shelf and each refusal by hand, then random ones.
 
-use crate::calls::{record_with, slip_of};
+use crate::calls::{record_with, slip_of, synthesize};
 use crate::catalogues::{
     accession, differing, made, matching, put, set_number, visitor, without_numbers, ASKERS, BAD,
     WRONG,
@@ -191,8 +191,8 @@ fn duplicates() -> Vec<Call> {
     let (found, other, wrong) = (query(), slip_of(4, &[2, 1]), wrong_slip(WRONG[3]));
     let mut bad = numbered(4, &[2, 1], 2);
     put(&mut bad, &[BAD[0]]);
-    let shelves =
-        [record(7), [numbered(4, &[2, 1], 1), record(7)].concat(), { [record(7), bad].concat() }];
+    let good = [numbered(4, &[2, 1], 1), record(7)].concat();
+    let shelves = [record(7), good, [record(7), bad].concat()];
     let mut all = Vec::new();
     for (second, shelf) in
         [&other, &wrong].into_iter().flat_map(|s| shelves.iter().map(move |t| (s, t)))
@@ -350,18 +350,18 @@ fn same_start() -> Vec<Call> {
 /// A match as the first record and as the last of one, two, 16 and 84, the most that the script
 /// can tell; 16 slips from shelves that have them in their order and in the other.
 fn places() -> Vec<Call> {
-    let (match_, other) = (record(0x0201), numbered(4, &[2, 2], 5));
+    let (asked, other) = (record(0x0201), numbered(4, &[2, 2], 5));
     let slips = [slip_of(4, &[2, 1]), query(), slip_of(4, &[2, 2])].concat();
     let mut all = Vec::new();
     for count in [1, 2, 16, 84] {
         let others = other.repeat(count - 1);
-        all.push(asking(1, &slips, &[&match_[..], &others].concat()));
-        all.push(asking(2, &slips, &[&others[..], &match_].concat()));
+        all.push(asking(1, &slips, &[&asked[..], &others].concat()));
+        all.push(asking(2, &slips, &[&others[..], &asked].concat()));
     }
     let mut records: Vec<Vec<u8>> = Vec::new();
     for (slip, number) in self::slips().iter().zip(0x0300..) {
         let mut record = vec![0; RECORD_BYTES];
-        crate::calls::synthesize(slip, &mut record).expect("a good slip");
+        synthesize(slip, &mut record).expect("a good slip");
         set_number(&mut record, number);
         records.push(record);
     }

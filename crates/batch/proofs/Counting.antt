@@ -15,7 +15,7 @@ use Rattle.catalogue.specs.declared.LookedUp.{LookedUp}
 use Rattle.catalogue.specs.declared.LookedUp.the-variants as S
 use Rattle.codes.specs.Codes.{codeOf}
 use Rattle.codes.proofs.Laws.{code-refused}
-use Rattle.batch.specs.Rules.{queryAt, queriesIn, aloneOf, replyCode, isFound, isMade, isRefused, countOf}
+use Rattle.batch.specs.Rules.{queryAt, queriesIn, aloneOf, replyCode, isFound, isMade, isRefused, countKind}
 use Rattle.batch.specs.Walk.{kindOf, markOf, ofKind, Answered}
 
 -- ---- the kinds of replies
@@ -48,20 +48,20 @@ mark-refused (S.Refused r) = rw (kind-refused r)
 -- ---- what the code counts
 
 module _ (who : ℕ) (queries catalogue out replies : List ℕ) (a : Answered who queries catalogue out replies) where
-  counted : (k : ℕ) (kind : LookedUp → ℕ) → ((t : LookedUp) → markOf k (replyCode t) ≡ kind t) → ofKind k replies ≡ countOf kind queries catalogue
-  unfolding countOf
+  counted : (k : ℕ) (kind : LookedUp → ℕ) → ((t : LookedUp) → markOf k (replyCode t) ≡ kind t) → ofKind k replies ≡ countKind kind queries catalogue
+  unfolding countKind
   counted k kind same =
       ap (λ (n : ℕ). sumTo n (λ i. markOf k (at replies i))) (a .many)
       ∙ sumTo-eq (queriesIn queries) (λ i. markOf k (at replies i)) (λ i. kind (aloneOf (queryAt queries i) catalogue))
       (λ i h. ap (markOf k) (a .told i h) ∙ same (aloneOf (queryAt queries i) catalogue))
 
-  pub found-counted : ofKind 1 replies ≡ countOf isFound queries catalogue
+  pub found-counted : ofKind 1 replies ≡ countKind isFound queries catalogue
   found-counted = counted 1 isFound mark-found
 
-  pub made-counted : ofKind 0 replies ≡ countOf isMade queries catalogue
+  pub made-counted : ofKind 0 replies ≡ countKind isMade queries catalogue
   made-counted = counted 0 isMade mark-made
 
-  pub refused-counted : ofKind 2 replies ≡ countOf isRefused queries catalogue
+  pub refused-counted : ofKind 2 replies ≡ countKind isRefused queries catalogue
   refused-counted = counted 2 isRefused mark-refused
 
 -- ---- each query is counted once
@@ -77,6 +77,6 @@ each-once zero f = refl
 each-once (suc n) f = omega (arith, each-once n f, once (f n))
 
 -- found, made and refused together are the queries
-pub all-counted : (queries catalogue : List ℕ) → countOf isFound queries catalogue + countOf isMade queries catalogue + countOf isRefused queries catalogue ≡ queriesIn queries
-unfolding countOf
+pub all-counted : (queries catalogue : List ℕ) → countKind isFound queries catalogue + countKind isMade queries catalogue + countKind isRefused queries catalogue ≡ queriesIn queries
+unfolding countKind
 all-counted queries catalogue = each-once (queriesIn queries) (λ i. aloneOf (queryAt queries i) catalogue)

@@ -1,6 +1,6 @@
 -- Laws of the walk: what is held for a query before it, after one record more, and what the query gets in the end.
 -- Assumes nothing.
-use mathlib.Core.Path.{_≡_, refl, sym, ap, ap₂, _∙_}
+use mathlib.Core.Path.{_≡_, refl, sym, ap, _∙_, subst}
 use mathlib.Core.Bool.{Bool, true, false}
 use mathlib.Core.Logic.{_⊎_, inl, inr}
 use mathlib.Core.List.{List}
@@ -48,12 +48,12 @@ module _ (query catalogue : List ℕ) where
 
 -- ---- what is held after j records, told apart
 
-pub data Held (query catalogue : List ℕ) (j : ℕ) : Type 0 where
+data Held (query catalogue : List ℕ) (j : ℕ) : Type 0 where
   looking : checkOf query ≡ O.Done → j ≤ firstMatch query catalogue j → heldOf query catalogue j ≡ S.Made → Held query catalogue j
   met : checkOf query ≡ O.Done → firstMatch query catalogue j < j → heldOf query catalogue j ≡ S.Found (firstMatch query catalogue j) → Held query catalogue j
   refused : (r : Refusal) → checkOf query ≡ O.Refused r → heldOf query catalogue j ≡ S.Refused r → Held query catalogue j
 
-held-refused : (query catalogue : List ℕ) (j : ℕ) (r : Refusal) → checkOf query ≡ O.Refused r → heldOf query catalogue j ≡ S.Refused r
+pub held-refused : (query catalogue : List ℕ) (j : ℕ) (r : Refusal) → checkOf query ≡ O.Refused r → heldOf query catalogue j ≡ S.Refused r
 unfolding heldOf
 held-refused query catalogue j r e = rw e
 
@@ -65,13 +65,53 @@ held-made : (query catalogue : List ℕ) (j : ℕ) → checkOf query ≡ O.Done 
 unfolding heldOf
 held-made query catalogue j e h = rw (e, le-ltb _ _ h)
 
-pub held : (query catalogue : List ℕ) (j : ℕ) → Held query catalogue j
+held : (query catalogue : List ℕ) (j : ℕ) → Held query catalogue j
 held query catalogue j = go (checkOf query) refl (lt-or-le (firstMatch query catalogue j) j)
   where
     go : (o : Outcome) → checkOf query ≡ o → (firstMatch query catalogue j < j) ⊎ (j ≤ firstMatch query catalogue j) → Held query catalogue j
     go O.Done e (inl h) = met e h (held-found query catalogue j e h)
     go O.Done e (inr h) = looking e h (held-made query catalogue j e h)
     go (O.Refused r) e h = refused r e (held-refused query catalogue j r e)
+
+-- ---- it is the first match, or none
+
+module _ (query catalogue : List ℕ) (j : ℕ) (passed : checkOf query ≡ O.Done) where
+  pub match-is :
+      (i : ℕ) → heldOf query catalogue j ≡ S.Found i
+      → (i < j) × ((isOf query (recordAt catalogue i) ≡ true) × ((k : ℕ) → k < i → isOf query (recordAt catalogue k) ≡ false))
+  unfolding firstMatch
+  match-is i e = go (held query catalogue j)
+    where
+      go : Held query catalogue j → (i < j) × ((isOf query (recordAt catalogue i) ≡ true) × ((k : ℕ) → k < i → isOf query (recordAt catalogue k) ≡ false))
+      go (looking p h z) = let q : S.Made ≡ S.Found i = sym z ∙ e in let y : _≡_ {A = ℕ} 0 1 = cc in absurd (omega arith)
+      go (met p h z) =
+          let q : S.Found (firstMatch query catalogue j) ≡ S.Found i = sym z ∙ e in
+          let y : firstMatch query catalogue j ≡ i = cc in
+          subst (λ (x : ℕ). (x < j) × ((isOf query (recordAt catalogue x) ≡ true) × ((k : ℕ) → k < x → isOf query (recordAt catalogue k) ≡ false))) y
+          (h, (first-passes j (λ i. isOf query (recordAt catalogue i)) h, first-before j (λ i. isOf query (recordAt catalogue i))))
+      go (refused r p z) = let q : S.Refused r ≡ S.Found i = sym z ∙ e in let y : _≡_ {A = ℕ} 0 1 = cc in absurd (omega arith)
+
+  pub is-match :
+      (i : ℕ) → i < j → isOf query (recordAt catalogue i) ≡ true → ((k : ℕ) → k < i → isOf query (recordAt catalogue k) ≡ false) → heldOf query catalogue j ≡ S.Found i
+  unfolding firstMatch
+  is-match i h e before =
+      let y : firstMatch query catalogue j ≡ i = sym (is-first j (λ i. isOf query (recordAt catalogue i)) i (omega arith) before (λ l. e)) in
+      held-found query catalogue j passed (omega (arith, h, y)) ∙ ap (λ (k : ℕ). S.Found k) y
+
+  pub none-is : heldOf query catalogue j ≡ S.Made → (k : ℕ) → k < j → isOf query (recordAt catalogue k) ≡ false
+  unfolding firstMatch
+  none-is e = go (held query catalogue j)
+    where
+      go : Held query catalogue j → (k : ℕ) → k < j → isOf query (recordAt catalogue k) ≡ false
+      go (looking p h z) = first-none j (λ i. isOf query (recordAt catalogue i)) h
+      go (met p h z) = let q : S.Made ≡ S.Found (firstMatch query catalogue j) = sym e ∙ z in let y : _≡_ {A = ℕ} 0 1 = cc in absurd (omega arith)
+      go (refused r p z) = let q : S.Made ≡ S.Refused r = sym e ∙ z in let y : _≡_ {A = ℕ} 0 1 = cc in absurd (omega arith)
+
+  pub is-none : ((k : ℕ) → k < j → isOf query (recordAt catalogue k) ≡ false) → heldOf query catalogue j ≡ S.Made
+  unfolding firstMatch
+  is-none h =
+      let y : firstMatch query catalogue j ≡ j = none-first j (λ i. isOf query (recordAt catalogue i)) h in
+      held-made query catalogue j passed (omega (arith, y))
 
 -- ---- before the walk
 

@@ -4,3 +4,4 @@ pub mod Holding
 pub mod Marks
 pub mod Counting
 pub mod Whole
+pub mod Laws

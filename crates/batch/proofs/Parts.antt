@@ -4,7 +4,7 @@ use mathlib.Core.Path.{_≡_, refl, sym, ap, ap₂, _∙_}
 use mathlib.Core.List.{List, [], _∷_, _++_, append-nil}
 use Prim.Native.Nat.{ℕ, zero, suc, _+_, _-_, _*_, _≤_, _<_}
 use native.Mathlib.Omega.{arith}
-use lib.ListN.{length, take, drop, replicate, length-drop, length-replicate, drop-of-length-le, take-append-drop, getD-replicate}
+use lib.ListN.{length, take, drop, replicate, length-append, length-drop, length-replicate, drop-of-length-le, take-append-drop, getD-replicate}
 use lib.Seq.{take-at, drop-at, take-take, drop-drop, length-take-le, getD-take, getD-drop, ext-getD}
 use borrow.Rule.Slice.PartMut.{putMid, same-len-mid, mid-len, take-put, drop-put}
 use Rattle.lists.specs.Table.{at, tabulate}
@@ -61,6 +61,32 @@ is-end-to-end (suc n) f out w h =
     next i =
         let e : recordBytes + i * recordBytes ≡ suc i * recordBytes = omega arith in
         ap (take recordBytes) (drop-drop (i * recordBytes) recordBytes out ∙ ap (λ (z : ℕ). drop z out) e)
+
+pub end-to-end-eq : (n : ℕ) (f g : ℕ → List ℕ) → ((i : ℕ) → i < n → f i ≡ g i) → endToEnd n f ≡ endToEnd n g
+unfolding endToEnd
+end-to-end-eq zero f g h = refl
+end-to-end-eq (suc n) f g h =
+    ap₂ (λ (x y : List ℕ). x ++ y) (h zero (omega arith)) (end-to-end-eq n (λ i. f (suc i)) (λ i. g (suc i)) (λ i l. h (suc i) (omega arith)))
+
+-- parts that are each as long as a record
+pub end-to-end-long : (n : ℕ) (f : ℕ → List ℕ) → ((i : ℕ) → i < n → length (f i) ≡ recordBytes) → length (endToEnd n f) ≡ n * recordBytes
+unfolding endToEnd
+end-to-end-long zero f h = refl
+end-to-end-long (suc n) f h =
+    omega (arith, length-append (f zero) (endToEnd n (λ i. f (suc i))), h zero (omega arith), end-to-end-long n (λ i. f (suc i)) (λ i l. h (suc i) (omega arith)))
+
+pub at-end-to-end : (n : ℕ) (f : ℕ → List ℕ) → ((i : ℕ) → i < n → length (f i) ≡ recordBytes) → (i : ℕ) → i < n → recordAt (endToEnd n f) i ≡ f i
+unfolding endToEnd
+at-end-to-end zero f h i l = absurd (omega arith)
+at-end-to-end (suc n) f h zero l = take-at (f zero) (endToEnd n (λ i. f (suc i))) recordBytes (h zero (omega arith))
+at-end-to-end (suc n) f h (suc i) l =
+    ap (take recordBytes) (skip ∙ ap (drop (i * recordBytes)) (drop-at (f zero) (endToEnd n (λ i. f (suc i))) recordBytes (h zero (omega arith))))
+    ∙ at-end-to-end n (λ i. f (suc i)) (λ i l. h (suc i) (omega arith)) i (omega arith)
+  where
+    skip : drop (suc i * recordBytes) (f zero ++ endToEnd n (λ i. f (suc i))) ≡ drop (i * recordBytes) (drop recordBytes (f zero ++ endToEnd n (λ i. f (suc i))))
+    skip =
+        let e : suc i * recordBytes ≡ recordBytes + i * recordBytes = omega arith in
+        ap (λ (z : ℕ). drop z (f zero ++ endToEnd n (λ i. f (suc i)))) e ∙ sym (drop-drop (i * recordBytes) recordBytes (f zero ++ endToEnd n (λ i. f (suc i))))
 
 -- ---- zeros
 

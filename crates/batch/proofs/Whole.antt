@@ -25,7 +25,7 @@ use Rattle.catalogue.proofs.Laws.{cut-record}
 use Rattle.codes.specs.Codes.{codeOf, countsCodeOf}
 use Rattle.codes.proofs.Laws.{counts-refused}
 use Rattle.batch.specs.declared.Batch.{Batch}
-use Rattle.batch.specs.Rules.{maxQueries, queryAt, queriesIn, aloneOf, partOf, replyCode, isFound, isMade, isRefused, countOf, fits, refusedBy, refusedWhole, replyBy, lookUpBatchOf, answerBy, batchAnswer, lookUpBatchAnswer, endToEnd, partsIn, repliesIn}
+use Rattle.batch.specs.Rules.{maxQueries, queryAt, queriesIn, aloneOf, partOf, replyCode, isFound, isMade, isRefused, countKind, lengthsFit, refusedBy, refusedWhole, replyBy, lookUpBatchOf, answerBy, batchAnswer, lookUpBatchAnswer, endToEnd, partsIn, repliesIn}
 use Rattle.batch.specs.Walk.{heldOf, heldPart, checkCode, offeredPart, offeredCode, Holding, Offered, Answered, settledPart, settledCode, Settled, ofKind}
 use Rattle.batch.proofs.Parts.{zero-part, is-end-to-end}
 use Rattle.batch.proofs.Holding.{held-start, held-next, held-end}
@@ -33,33 +33,33 @@ use Rattle.batch.proofs.Counting.{found-counted, made-counted, refused-
 
 -- ---- the lengths
 
-pub fits-out : (q o r : ℕ) → fits q o r ≡ true → o ≡ q / queryBytes * recordBytes
+pub fits-out : (q o r : ℕ) → lengthsFit q o r ≡ true → o ≡ q / queryBytes * recordBytes
 fits-out q o r h = eqb-true _ _ (both-left (eqb o (q / queryBytes * recordBytes)) _ (both-right (eqb (q % queryBytes) 0) _ h))
 
-pub fits-replies : (q o r : ℕ) → fits q o r ≡ true → r ≡ q / queryBytes
+pub fits-replies : (q o r : ℕ) → lengthsFit q o r ≡ true → r ≡ q / queryBytes
 fits-replies q o r h = eqb-true _ _ (both-right (eqb o (q / queryBytes * recordBytes)) _ (both-right (eqb (q % queryBytes) 0) _ h))
 
-pub fits-no : (q o r : ℕ) → (o ≡ q / queryBytes * recordBytes → r ≡ q / queryBytes → ⊥) → false ≡ fits q o r
-fits-no q o r h = go (fits q o r) refl
+pub fits-no : (q o r : ℕ) → (o ≡ q / queryBytes * recordBytes → r ≡ q / queryBytes → ⊥) → false ≡ lengthsFit q o r
+fits-no q o r h = go (lengthsFit q o r) refl
   where
-    go : (b : Bool) → fits q o r ≡ b → false ≡ b
+    go : (b : Bool) → lengthsFit q o r ≡ b → false ≡ b
     go true e = absurd (h (fits-out q o r e) (fits-replies q o r e))
     go false e = refl
 
 -- where the whole call is not refused, all lengths are right
 pub record Right (q c o r : ℕ) : Type 0 where
-  pub sized : fits q o r ≡ true
+  pub sized : lengthsFit q o r ≡ true
   pub few : q / queryBytes ≤ maxQueries
   pub whole : c % recordBytes ≡ 0
 
 pub done-right : (q c o r : ℕ) → refusedWhole q c o r ≡ O.Done → Right q c o r
 unfolding refusedWhole
-done-right q c o r h = go (fits q o r) (ltb maxQueries (q / queryBytes)) (eqb (c % recordBytes) 0) refl refl refl h
+done-right q c o r h = go (lengthsFit q o r) (ltb maxQueries (q / queryBytes)) (eqb (c % recordBytes) 0) refl refl refl h
   where
     no : {s : Refusal} → O.Refused s ≡ O.Done → Right q c o r
     no e = let z : _≡_ {A = ℕ} 0 1 = cc in absurd (omega arith)
 
-    go : (f m w : Bool) → fits q o r ≡ f → ltb maxQueries (q / queryBytes) ≡ m → eqb (c % recordBytes) 0 ≡ w → refusedBy (not f) m (not w) ≡ O.Done → Right q c o r
+    go : (f m w : Bool) → lengthsFit q o r ≡ f → ltb maxQueries (q / queryBytes) ≡ m → eqb (c % recordBytes) 0 ≡ w → refusedBy (not f) m (not w) ≡ O.Done → Right q c o r
     go true false true ef em ew k = record { sized = ef; few = ltb-false _ _ em; whole = eqb-true _ _ ew }
     go true false false ef em ew k = no k
     go true true w ef em ew k = no k
@@ -130,16 +130,16 @@ answered who queries catalogue out replies out' replies' whole s o =
 -- ---- what is replied
 
 -- the answer by number is that of the reply
-answer-told : (queries catalogue out replies : List ℕ) → batchAnswer (lookUpBatchOf queries catalogue out replies) ≡ lookUpBatchAnswer queries catalogue out replies
+pub answer-told : (queries catalogue out replies : List ℕ) → batchAnswer (lookUpBatchOf queries catalogue out replies) ≡ lookUpBatchAnswer queries catalogue out replies
 unfolding lookUpBatchOf lookUpBatchAnswer refusedWhole firstOf
 answer-told queries catalogue out replies =
-    go (not (fits (length queries) (length out) (length replies))) (ltb maxQueries (queriesIn queries)) (not (eqb (length catalogue % recordBytes) 0))
+    go (not (lengthsFit (length queries) (length out) (length replies))) (ltb maxQueries (queriesIn queries)) (not (eqb (length catalogue % recordBytes) 0))
   where
     go : (f m u : Bool)
-        → batchAnswer (replyBy (refusedBy f m u) (countOf isFound queries catalogue) (countOf isMade queries catalogue) (countOf isRefused queries catalogue))
+        → batchAnswer (replyBy (refusedBy f m u) (countKind isFound queries catalogue) (countKind isMade queries catalogue) (countKind isRefused queries catalogue))
         ≡ pick f (refused 5)
         (pick m (refused 34)
-        (pick u (refused 23) (granted (countOf isFound queries catalogue ∷ countOf isMade queries catalogue ∷ countOf isRefused queries catalogue ∷ []))))
+        (pick u (refused 23) (granted (countKind isFound queries catalogue ∷ countKind isMade queries catalogue ∷ countKind isRefused queries catalogue ∷ []))))
     go true m u = refl
     go false true u = refl
     go false false true = refl
@@ -151,18 +151,20 @@ Told queries catalogue out replies who b out' replies' =
     × ((out' ≡ partsIn who b queries catalogue out)
     × ((replies' ≡ repliesIn b queries catalogue replies) × (batchAnswer b ≡ lookUpBatchAnswer queries catalogue out replies)))
 
-module _ (queries catalogue out replies : List ℕ) (who : ℕ) where
-  reply : (o : Outcome) → refusedWhole (length queries) (length catalogue) (length out) (length replies) ≡ o
-      → lookUpBatchOf queries catalogue out replies ≡ replyBy o (countOf isFound queries catalogue) (countOf isMade queries catalogue) (countOf isRefused queries catalogue)
-  unfolding lookUpBatchOf
-  reply o e = ap (λ (x : Outcome). replyBy x (countOf isFound queries catalogue) (countOf isMade queries catalogue) (countOf isRefused queries catalogue)) e
+pub reply-by :
+    (queries catalogue out replies : List ℕ) (o : Outcome) → refusedWhole (length queries) (length catalogue) (length out) (length replies) ≡ o
+    → lookUpBatchOf queries catalogue out replies ≡ replyBy o (countKind isFound queries catalogue) (countKind isMade queries catalogue) (countKind isRefused queries catalogue)
+unfolding lookUpBatchOf
+reply-by queries catalogue out replies o e =
+    ap (λ (x : Outcome). replyBy x (countKind isFound queries catalogue) (countKind isMade queries catalogue) (countKind isRefused queries catalogue)) e
 
+module _ (queries catalogue out replies : List ℕ) (who : ℕ) where
   -- each way out, with the whole promise
   pub refused-told :
       {o : Outcome} {r : Refusal} → o ≡ refusedWhole (length queries) (length catalogue) (length out) (length replies) → o ≡ O.Refused r
       → Told queries catalogue out replies who (record { found = 0; made = 0; refused = 0; outcome = O.Refused r }) out replies
   refused-told {o} {r} e k =
-      let same = sym (reply (O.Refused r) (sym e ∙ k)) in
+      let same = sym (reply-by queries catalogue out replies (O.Refused r) (sym e ∙ k)) in
       (same, (refl, (refl, ap batchAnswer same ∙ answer-told queries catalogue out replies)))
 
   pub done-told :
@@ -181,7 +183,7 @@ module _ (queries catalogue out replies : List ℕ) (who : ℕ) where
   )
     where
       counts : _≡_ {A = Batch} (record { found = f; made = m; refused = x; outcome = O.Done })
-          (replyBy O.Done (countOf isFound queries catalogue) (countOf isMade queries catalogue) (countOf isRefused queries catalogue))
+          (replyBy O.Done (countKind isFound queries catalogue) (countKind isMade queries catalogue) (countKind isRefused queries catalogue))
       counts = λ i. record {
         found = (ef ∙ found-counted who queries catalogue out' replies' a) i;
         made = (em ∙ made-counted who queries catalogue out' replies' a) i;
@@ -190,7 +192,7 @@ module _ (queries catalogue out replies : List ℕ) (who : ℕ) where
       }
 
       same : _≡_ {A = Batch} (record { found = f; made = m; refused = x; outcome = O.Done }) (lookUpBatchOf queries catalogue out replies)
-      same = counts ∙ sym (reply O.Done (sym e ∙ k))
+      same = counts ∙ sym (reply-by queries catalogue out replies O.Done (sym e ∙ k))
 
 -- ---- the counts
 
@@ -201,10 +203,10 @@ counts-small queries catalogue out replies {b} same = go (refusedWhole (length q
   where
     go : (o : Outcome) → refusedWhole (length queries) (length catalogue) (length out) (length replies) ≡ o → b .found + b .made + b .refused ≤ maxQueries
     go O.Done e =
-        subst (λ (b : Batch). b .found + b .made + b .refused ≤ maxQueries) (sym (same ∙ reply queries catalogue out replies 0 O.Done e))
+        subst (λ (b : Batch). b .found + b .made + b .refused ≤ maxQueries) (sym (same ∙ reply-by queries catalogue out replies O.Done e))
         (omega (arith, all-counted queries catalogue, done-right (length queries) (length catalogue) (length out) (length replies) e .few))
     go (O.Refused r) e =
-        subst (λ (b : Batch). b .found + b .made + b .refused ≤ maxQueries) (sym (same ∙ reply queries catalogue out replies 0 (O.Refused r) e)) (omega arith)
+        subst (λ (b : Batch). b .found + b .made + b .refused ≤ maxQueries) (sym (same ∙ reply-by queries catalogue out replies (O.Refused r) e)) (omega arith)
 
 -- ---- the refusals of the whole call
 
@@ -212,9 +214,9 @@ counts-small queries catalogue out replies {b} same = go (refusedWhole (length q
 pub refused-plain : (queries catalogue out replies : List ℕ) {r : Refusal} → lookUpBatchOf queries catalogue out replies .outcome ≡ O.Refused r → refusal r .values ≡ []
 unfolding lookUpBatchOf refusedWhole
 refused-plain queries catalogue out replies {r} h =
-    go (not (fits (length queries) (length out) (length replies))) (ltb maxQueries (queriesIn queries)) (not (eqb (length catalogue % recordBytes) 0)) h
+    go (not (lengthsFit (length queries) (length out) (length replies))) (ltb maxQueries (queriesIn queries)) (not (eqb (length catalogue % recordBytes) 0)) h
   where
-    go : (f m u : Bool) → replyBy (refusedBy f m u) (countOf isFound queries catalogue) (countOf isMade queries catalogue) (countOf isRefused queries catalogue) .outcome ≡ O.Refused r
+    go : (f m u : Bool) → replyBy (refusedBy f m u) (countKind isFound queries catalogue) (countKind isMade queries catalogue) (countKind isRefused queries catalogue) .outcome ≡ O.Refused r
         → refusal r .values ≡ []
     go true m u e = sym (ap (λ (o : Outcome). outcomeAnswer o .values) e)
     go false true u e = sym (ap (λ (o : Outcome). outcomeAnswer o .values) e)

@@ -65,14 +65,14 @@ isRefused S.Made = 0
 isRefused (S.Refused r) = 1
 
 -- how many queries get a reply of a kind
-unfoldable pub countOf : (LookedUp → ℕ) → List ℕ → List ℕ → ℕ
-countOf kind queries catalogue = sumTo (queriesIn queries) (λ i. kind (aloneOf (queryAt queries i) catalogue))
+unfoldable pub countKind : (LookedUp → ℕ) → List ℕ → List ℕ → ℕ
+countKind kind queries catalogue = sumTo (queriesIn queries) (λ i. kind (aloneOf (queryAt queries i) catalogue))
 
 -- ---- the whole call
 
 -- the lengths fit: whole queries, 778 bytes for each, and a reply for each
-abbrev pub fits : ℕ → ℕ → ℕ → Bool
-fits queries out replies =
+abbrev pub lengthsFit : ℕ → ℕ → ℕ → Bool
+lengthsFit queries out replies =
     both (eqb (queries % queryBytes) 0) (both (eqb out (queries / queryBytes * recordBytes)) (eqb replies (queries / queryBytes)))
 
 -- 5, 34, 23, in this order, by what is wrong
@@ -81,7 +81,7 @@ refusedBy misfit many uneven = pick misfit (O.Refused R.Buffer) (pick many (O.Re
 
 unfoldable pub refusedWhole : (queries catalogue out replies : ℕ) → Outcome
 refusedWhole queries catalogue out replies =
-    refusedBy (not (fits queries out replies)) (ltb maxQueries (queries / queryBytes)) (not (eqb (catalogue % recordBytes) 0))
+    refusedBy (not (lengthsFit queries out replies)) (ltb maxQueries (queries / queryBytes)) (not (eqb (catalogue % recordBytes) 0))
 
 -- the counts beside the outcome; with a refusal they are 0
 abbrev pub replyBy : Outcome → (found made refused : ℕ) → Batch
@@ -90,9 +90,9 @@ replyBy (O.Refused r) found made refused = record { found = 0; made = 0; refused
 
 unfoldable pub lookUpBatchOf : (queries catalogue out replies : List ℕ) → Batch
 lookUpBatchOf queries catalogue out replies =
-    replyBy (refusedWhole (length queries) (length catalogue) (length out) (length replies)) (countOf isFound queries catalogue)
-    (countOf isMade queries catalogue)
-    (countOf isRefused queries catalogue)
+    replyBy (refusedWhole (length queries) (length catalogue) (length out) (length replies)) (countKind isFound queries catalogue)
+    (countKind isMade queries catalogue)
+    (countKind isRefused queries catalogue)
 
 -- the reply by number: the three counts as values
 abbrev pub answerBy : Outcome → (found made refused : ℕ) → Answer
@@ -105,11 +105,11 @@ batchAnswer b = answerBy (b .outcome) (b .found) (b .made) (b .refused)
 unfoldable pub lookUpBatchAnswer : (queries catalogue out replies : List ℕ) → Answer
 lookUpBatchAnswer queries catalogue out replies =
     firstOf
-    ((not (fits (length queries) (length out) (length replies)), refused 5)
+    ((not (lengthsFit (length queries) (length out) (length replies)), refused 5)
     ∷ (ltb maxQueries (queriesIn queries), refused 34)
     ∷ (not (eqb (length catalogue % recordBytes) 0), refused 23)
     ∷ [])
-    (granted (countOf isFound queries catalogue ∷ countOf isMade queries catalogue ∷ countOf isRefused queries catalogue ∷ []))
+    (granted (countKind isFound queries catalogue ∷ countKind isMade queries catalogue ∷ countKind isRefused queries catalogue ∷ []))
 
 -- f 0, f 1, .., f (n - 1), end to end
 unfoldable pub endToEnd : ℕ → (ℕ → List ℕ) → List ℕ

@@ -17,7 +17,7 @@ ghost use Rattle.lists.specs.Table.{tabulate};
 ghost use Rattle.sequence.specs.Limits.{queryBytes};
 ghost use Rattle.sequence.specs.Rules.{IsSound, sequenceOf, checkOf};
 ghost use Rattle.catalogue.specs.Rules.{recordBytes, records, seenBy};
-ghost use Rattle.batch.specs.Rules.{queryAt, queriesIn, zeroRecord, fits, refusedBy, refusedWhole, lookUpBatchOf, batchAnswer, lookUpBatchAnswer, partsIn, repliesIn};
+ghost use Rattle.batch.specs.Rules.{queryAt, queriesIn, zeroRecord, lengthsFit, refusedBy, refusedWhole, lookUpBatchOf, batchAnswer, lookUpBatchAnswer, partsIn, repliesIn};
 ghost use Rattle.batch.specs.Walk.{Holding, Answered, checkCode, offeredPart, offeredCode, Offered, slots, slotOf, Marked, testedPart, testedCode, settledPart, settledCode, Settled, kindOf, markOf, ofKind};
 
 pub const MAX_QUERIES: usize = 16;
@@ -294,8 +294,8 @@ fn count(replies: &[u64], k: u32) -> usize
 }
 
 // Whether the lengths fit. Nothing is multiplied, since a length may be any number.
-fn fits(queries: usize, out: usize, replies: usize) -> bool
-    ensures { λ r. ⌜ r ≡ fits queries out replies ⌝ }
+fn lengths_fit(queries: usize, out: usize, replies: usize) -> bool
+    ensures { λ r. ⌜ r ≡ lengthsFit queries out replies ⌝ }
 {
     if queries % QUERY_BYTES != 0 {
         return false;
@@ -332,7 +332,7 @@ fn refused_by(misfit: bool, many: bool, uneven: bool) -> Outcome
 fn refused_whole(queries: usize, catalogue: usize, out: usize, replies: usize) -> Outcome
     ensures { λ r. ⌜ r ≡ refusedWhole queries catalogue out replies ⌝ }
 {
-    let misfit = !fits(queries, out, replies);
+    let misfit = !lengths_fit(queries, out, replies);
     let many = MAX_QUERIES < queries / QUERY_BYTES;
     let uneven = catalogue % RECORD_BYTES != 0;
     refused_by(misfit, many, uneven)

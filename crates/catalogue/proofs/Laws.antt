@@ -217,3 +217,9 @@ module _ (query catalogue out : List ℕ) (size : length out ≡ recordBytes) (p
       (S.Refused R.Record)
   unfolding lookUpOf fetchOf
   look-up-met h = rw (eq-eqb _ _ size, passed, eq-eqb _ _ whole, lt-ltb _ _ h)
+
+-- of the lent record only its length counts
+pub look-up-lent : (query catalogue out out' : List ℕ) → length out ≡ length out' → lookUpOf query catalogue out ≡ lookUpOf query catalogue out'
+unfolding lookUpOf
+look-up-lent query catalogue out out' h =
+    ap (λ (n : ℕ). pick (eqb n recordBytes) (orElse (checkOf query) (fetchOf query catalogue)) (S.Refused R.Buffer)) h

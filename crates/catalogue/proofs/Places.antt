@@ -1,11 +1,14 @@
 -- Where things stand in a record, whatever its accession number.
 -- Assumes nothing.
-use mathlib.Core.Path.{_≡_, sym, ap, _∙_}
+use mathlib.Core.Path.{_≡_, refl, sym, ap, _∙_}
+use mathlib.Core.Bool.{Bool, true, false}
 use mathlib.Core.List.{List, [], _∷_, _++_, append-assoc}
 use Prim.Native.Nat.{ℕ, _+_, _*_, _<_}
 use native.Mathlib.Omega.{arith}
-use lib.ListN.{length, take, drop, length-append, List·getD-append}
-use lib.Seq.{take-at, drop-at, drop-drop, take-all, getD-append-add}
+use lib.Dec.{eqb}
+use lib.ListN.{length, take, drop, length-drop, length-append, List·getD-append}
+use lib.Seq.{take-at, drop-at, drop-drop, take-all, length-take-le, getD-append-add}
+use Rattle.lists.specs.Choice.{pick}
 use Rattle.lists.specs.Table.{at, tabulate}
 use Rattle.lists.proofs.Table.{length-tabulate}
 use Rattle.cells.specs.Cell.{cellAt, bytesOf}
@@ -14,8 +17,11 @@ use Rattle.sequence.specs.declared.Sequence.{Sequence}
 use Rattle.sequence.specs.Limits.{queryBytes, aBytes, bBytes, maxCells, maxTerms}
 use Rattle.sequence.specs.Rules.{sequenceOf}
 use Rattle.sequence.specs.Report.{registerOf, aBuffer, bBuffer}
-use Rattle.catalogue.specs.Rules.{bodyBytes, body, noNumber, aPlace, bPlace, lengthCell, layout, recordOf}
+use Rattle.catalogue.specs.declared.LookedUp.{LookedUp}
+use Rattle.catalogue.specs.declared.LookedUp.the-variants as S
+use Rattle.catalogue.specs.Rules.{recordBytes, bodyBytes, body, noNumber, aPlace, bPlace, lengthCell, layout, recordOf, recordAt, records, lookUpOf, editor, seenBy, servedIn}
 use Rattle.catalogue.proofs.Body.{part-same, cell-same}
+use Rattle.catalogue.proofs.Laws.{found-below}
 
 length-a : (s : Sequence) → length (aBuffer s) ≡ aBytes
 length-a s =
@@ -99,3 +105,30 @@ made-body query size = take-at (layout query (sequenceOf query)) noNumber bodyBy
 pub made-number : (query : List ℕ) → length query ≡ queryBytes → drop bodyBytes (recordOf query) ≡ noNumber
 unfolding recordOf
 made-number query size = drop-at (layout query (sequenceOf query)) noNumber bodyBytes (layout-long query (sequenceOf query) size)
+
+-- ---- sizes
+
+pub record-size : (catalogue : List ℕ) (i : ℕ) → i < records catalogue → length (recordAt catalogue i) ≡ recordBytes
+record-size catalogue i h = length-take-le recordBytes (drop (i * recordBytes) catalogue) (omega (arith, length-drop (i * recordBytes) catalogue))
+
+made-size : (query : List ℕ) → length query ≡ queryBytes → length (recordOf query) ≡ recordBytes
+unfolding recordOf
+made-size query h = omega (arith, length-append (layout query (sequenceOf query)) noNumber, layout-long query (sequenceOf query) h)
+
+seen-size : (who : ℕ) (entry : List ℕ) → length entry ≡ recordBytes → length (seenBy who entry) ≡ recordBytes
+seen-size who entry h = go (eqb who editor)
+  where
+    go : (b : Bool) → length (pick b entry (body entry ++ noNumber)) ≡ recordBytes
+    go true = h
+    go false = omega (arith, length-append (body entry) noNumber, length-take-le bodyBytes entry (omega (arith, h)))
+
+-- what stands in the lent record at exit is as long as a record, whatever is replied
+pub served-size :
+    (who : ℕ) (query catalogue out : List ℕ) → length query ≡ queryBytes → length out ≡ recordBytes
+    → length (servedIn who (lookUpOf query catalogue out) query catalogue out) ≡ recordBytes
+served-size who query catalogue out hq ho = go (lookUpOf query catalogue out) refl
+  where
+    go : (t : LookedUp) → lookUpOf query catalogue out ≡ t → length (servedIn who t query catalogue out) ≡ recordBytes
+    go (S.Found i) e = seen-size who (recordAt catalogue i) (record-size catalogue i (found-below query catalogue out i e))
+    go S.Made e = made-size query hq
+    go (S.Refused r) e = ho

@@ -29,6 +29,7 @@ use Rattle.catalogue.specs.declared.Match.{Match}
 use Rattle.catalogue.specs.declared.Match.the-variants as M
 use Rattle.catalogue.specs.declared.LookedUp.the-variants as S
 use Rattle.catalogue.specs.Rules.{recordBytes, aPlace, bPlace, lengthCell, synthesizeOf, records, recordAt, firstMatch, matchOf, isYes, passes, serveOf, fetchOf, orElse, lookUpOf}
+use Rattle.catalogue.proofs.Places.{record-size}
 
 -- ---- making
 
@@ -137,14 +138,11 @@ yes-is (W.Refused r) h = false-true h
 
 -- a record's a and b have their sizes
 module _ (catalogue : List ℕ) (i : ℕ) (h : i < records catalogue) where
-  entry-size : length (recordAt catalogue i) ≡ recordBytes
-  entry-size = length-take-le recordBytes (drop (i * recordBytes) catalogue) (omega (arith, length-drop (i * recordBytes) catalogue))
-
   a-size : length (take aBytes (drop aPlace (recordAt catalogue i))) ≡ aBytes
-  a-size = length-take-le aBytes (drop aPlace (recordAt catalogue i)) (omega (arith, length-drop aPlace (recordAt catalogue i), entry-size))
+  a-size = length-take-le aBytes (drop aPlace (recordAt catalogue i)) (omega (arith, length-drop aPlace (recordAt catalogue i), record-size catalogue i h))
 
   b-size : length (take bBytes (drop bPlace (recordAt catalogue i))) ≡ bBytes
-  b-size = length-take-le bBytes (drop bPlace (recordAt catalogue i)) (omega (arith, length-drop bPlace (recordAt catalogue i), entry-size))
+  b-size = length-take-le bBytes (drop bPlace (recordAt catalogue i)) (omega (arith, length-drop bPlace (recordAt catalogue i), record-size catalogue i h))
 
 -- a record passes exactly when a test of its register against the query says yes
 module _ (query catalogue : List ℕ) (i : ℕ) (passed : checkOf query ≡ O.Done) (h : i < records catalogue) where

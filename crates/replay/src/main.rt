@@ -529,6 +529,82 @@ fn tally(c: Call) -> bool {
     tally_in(c.number, &mut cells[0..x])
 }
 
+// A number with the fill byte in each of its eight bytes, lent for a reply.
+fn filled(fill: u8) -> u64 {
+    72340172838076673 * (fill as u64)
+}
+
+// A number's eight bytes more.
+fn mixed_long(h: u32, v: u64) -> u32 {
+    mixed_pair(h, (v % 4294967296) as u32, (v / 4294967296) as u32)
+}
+
+// The hash of the bytes of numbers, eight for each.
+fn hash_numbers(numbers: &[u64]) -> u32 {
+    let mut h = START;
+    let mut i: usize = 0;
+    while i < numbers.len() {
+        h = mixed_long(h, numbers[i]);
+        i += 1;
+    }
+    h
+}
+
+fn print_counts(found: usize, made: usize, refused: usize) {
+    printing::text(b"found ");
+    printing::number(found as u64);
+    printing::text(b" made ");
+    printing::number(made as u64);
+    printing::text(b" refused ");
+    printing::number(refused as u64);
+}
+
+fn look_up_batch_in(
+    queries: &mut [u8],
+    records: &mut [u8],
+    who: u32,
+    entries: &mut [u8],
+    replies: &mut [u64],
+) -> bool {
+    if is_cut(queries) {
+        return false;
+    }
+    if is_cut(records) {
+        return false;
+    }
+    let b = batch::look_up_batch(queries, records, who as u64, entries, replies);
+    printing::text(b"look_up_batch ");
+    let o = b.outcome;
+    match o {
+        Outcome::Done => print_counts(b.found, b.made, b.refused),
+        Outcome::Refused(r) => printing::refused(r),
+    }
+    print_hash(hash(entries));
+    end_hash(hash_numbers(replies));
+    true
+}
+
+// The replies are counted in numbers where a run has its length.
+fn look_up_batch(c: Call) -> bool {
+    let fill = c.fill;
+    let x = c.x as usize;
+    let y = c.y as usize;
+    let z = c.z as usize;
+    let l = c.l as usize;
+    let mut queries = [0u8; 65536];
+    let mut records = [0u8; 65536];
+    let mut entries = [fill; 65536];
+    let number = filled(fill);
+    let mut replies = [number; 65536];
+    look_up_batch_in(
+        &mut queries[0..x],
+        &mut records[0..y],
+        c.number,
+        &mut entries[0..z],
+        &mut replies[0..l],
+    )
+}
+
 fn forge(s: Sequence, c: Call) -> Turn {
     if c.x as usize != QUERY_BYTES {
         printing::text(b"script bad forge\n");
@@ -569,6 +645,7 @@ fn act(s: Sequence, c: Call) -> Turn {
         13 => kept(s, period_length(c)),
         14 => kept(s, enumerate(c)),
         15 => kept(s, tally(c)),
+        16 => kept(s, look_up_batch(c)),
         _ => unknown(s, operation),
     }
 }

@@ -3,7 +3,6 @@
 use native.Mathlib.Omega.{arith}
 use Rattle.batch.proofs.Whole.{begun, answered}
 use borrow.Author.Needs.{needs}
-use borrow.Author.Needs.{needs}
 use Rattle.batch.proofs.answer_all.Statement.{statement}
 use Rattle.batch.proofs.answer_all.Tie as tie
 

@@ -5,7 +5,6 @@ use borrow.Author.Tests.{eq-eqb, ne-eqb}
 use Rattle.catalogue.proofs.Laws.{is-made}
 use Rattle.batch.proofs.Parts.{cleared}
 use borrow.Author.Needs.{needs}
-use borrow.Author.Needs.{needs}
 use Rattle.batch.proofs.conclude.Statement.{statement}
 use Rattle.batch.proofs.conclude.Tie as tie
 

@@ -6,7 +6,6 @@ use Rattle.sequence.specs.Answers.{outcomeAnswer}
 use Rattle.sequence.proofs.Laws.{checked}
 use Rattle.codes.specs.Codes.{codeOf}
 use borrow.Author.Needs.{needs}
-use borrow.Author.Needs.{needs}
 use Rattle.batch.proofs.first_reply.Statement.{statement}
 use Rattle.batch.proofs.first_reply.Tie as tie
 

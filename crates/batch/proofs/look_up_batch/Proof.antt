@@ -3,7 +3,6 @@
 use mathlib.Core.Path.{sym, _∙_}
 use Rattle.batch.proofs.Whole.{fits-out, fits-replies, done-right, refused-told, done-told}
 use borrow.Author.Needs.{needs}
-use borrow.Author.Needs.{needs}
 use Rattle.batch.proofs.look_up_batch.Statement.{statement}
 use Rattle.batch.proofs.look_up_batch.Tie as tie
 

@@ -2,7 +2,6 @@
 -- Assumes nothing.
 use Rattle.batch.proofs.Marks.{passed-by}
 use borrow.Author.Needs.{needs}
-use borrow.Author.Needs.{needs}
 use Rattle.batch.proofs.pass.Statement.{statement}
 use Rattle.batch.proofs.pass.Tie as tie
 

@@ -1,7 +1,6 @@
 -- `batch::refused_by` meets its contract: each reply is the one that its tests pick.
 -- Assumes nothing.
 use borrow.Author.Needs.{needs}
-use borrow.Author.Needs.{needs}
 use Rattle.batch.proofs.refused_by.Statement.{statement}
 use Rattle.batch.proofs.refused_by.Tie as tie
 

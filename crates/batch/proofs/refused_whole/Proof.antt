@@ -2,19 +2,18 @@
 -- Assumes nothing.
 use Rattle.batch.specs.Rules.{refusedWhole}
 use borrow.Author.Needs.{needs}
-use borrow.Author.Needs.{needs}
 use Rattle.batch.proofs.refused_whole.Statement.{statement}
 use Rattle.batch.proofs.refused_whole.Tie as tie
 
-fits-requires : tie.Need-fits-requires
-fits-requires c κs = search needs
+lengths-fit-requires : tie.Need-lengths-fit-requires
+lengths-fit-requires c κs = search needs
 
 refused-by-requires : tie.Need-refused-by-requires
 refused-by-requires c κs = search needs
 
 returns : tie.Need-returns
 unfolding refusedWhole
-returns c = rw (← c .before .fits2 .ensures) (c .refused-by .ensures)
+returns c = rw (← c .before .lengths-fit .ensures) (c .refused-by .ensures)
 
 pub refused-whole-spec : {M : Type 1} → statement M
-refused-whole-spec = tie.close (tie.spec fits-requires refused-by-requires returns)
+refused-whole-spec = tie.close (tie.spec lengths-fit-requires refused-by-requires returns)

@@ -3,7 +3,6 @@
 use mathlib.Core.Path.{refl}
 use Rattle.sequence.proofs.Laws.{checked, accepted}
 use borrow.Author.Needs.{needs}
-use borrow.Author.Needs.{needs}
 use Rattle.batch.proofs.settle.Statement.{statement}
 use Rattle.batch.proofs.settle.Tie as tie
 

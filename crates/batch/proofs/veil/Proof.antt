@@ -3,7 +3,6 @@
 use borrow.Author.Tests.{eq-eqb, ne-eqb}
 use Rattle.batch.proofs.Parts.{veiled}
 use borrow.Author.Needs.{needs}
-use borrow.Author.Needs.{needs}
 use Rattle.batch.proofs.veil.Statement.{statement}
 use Rattle.batch.proofs.veil.Tie as tie
 
