@@ -98,7 +98,7 @@ uint64_t diverthrone_look_up(const uint8_t *query, size_t query_len, const uint8
 /* Looks up a batch: up to 16 queries of 260 bytes end to end, in one walk along the catalogue, in which each record is read once. Each query
  * gets what diverthrone_look_up would give it alone from the same catalogue for who asks; queries may be equal, and each is answered.
  * Of query i, counted from 0, replies[i] is that reply: 0 for a record made, 256 * (1 + its place) for one found, the number of a refusal,
- * for 3 with its place. The 778 bytes of records from 778 * i on are that record, or zeros where the query is refused (1, 2, 3, 4, 24).
+ * with 256 * the place added for 3. The 778 bytes of records from 778 * i on are that record, or zeros where the query is refused.
  * records_len counts bytes, 778 for each query; replies_len counts numbers, one for each query.
  * Value: how many queries were found + 256 * how many were made + 65,536 * how many were refused; the three add up to the number of queries
  * and are taken out of a reply by diverthrone_batch_found, diverthrone_batch_made and diverthrone_batch_refused. A batch of none has value 0.

@@ -2035,8 +2035,8 @@ static void batch_by_hand(void) {
     check(diverthrone_batch_refused(33620480) == 2, "2 refused");
 }
 
-/* The catalogue that most batches are looked up in, by place. But for the first and case 3 the good records have a = 1 and b = S, so that no
- * record that is made has their bytes. Then there is one of 128 terms, at the last place. */
+/* The catalogue that most batches are looked up in, by place; behind these stands a record of 128 terms. Some have a = 1 and b = S, which
+ * passes the test but is not what would be made. */
 static const struct entry entries[] = {
     {7, 6, {1, 1, 2, 3, 5, 1}, 2, {1, 6, 6}, {1, 0}, 7},
     {27, 5, {6, 3, 1, 5, 6}, 5, {1}, {6, 3, 1, 5, 6}, 65535},     /* case 3's terms modulo 27 */
@@ -2157,9 +2157,7 @@ static uint64_t lend_these(const unsigned *of, size_t n, uint64_t who, int fill)
     return counted(found, made, refusals);
 }
 
-static void batch_of(const unsigned *of, size_t n, uint64_t who, const char *what) {
-    batch_replies(who, lend_these(of, n, who, 0x5A), what);
-}
+static void batch_of(const unsigned *of, size_t n, uint64_t who, const char *what) { batch_replies(who, lend_these(of, n, who, 0x5A), what); }
 
 /* Each kind at each place of 16, among queries that are all found, made, or refused. */
 static void kinds_at_places(void) {
@@ -2608,7 +2606,6 @@ static void nothing_lent(void) {
     refused(enumerate(1, 129, 8, &null), 5, &null, "enumerate: NULL for the query, and all else is wrong too");
     refused(tally(2, 3, &null), 5, &null, "tally: NULL for the cells");
     refused(tally(1, 129, &null), 5, &null, "tally: NULL for the cells, and all else is wrong too");
-    no_batch_lent();
 }
 
 static void of_records(void) {
@@ -2709,6 +2706,7 @@ static void of_batches(void) {
     far_too_many();
     batch_at_odd_addresses();
     query_in_the_catalogue();
+    no_batch_lent();
 }
 
 int main(int argc, char **argv) {

@@ -19,9 +19,12 @@ use Rattle.sequence.specs.Answers.{refusal}
 use Rattle.sequence.specs.Rules.{sequenceOf, checkOf}
 use Rattle.catalogue.specs.declared.LookedUp.{LookedUp}
 use Rattle.catalogue.specs.declared.LookedUp.the-variants as S
-use Rattle.catalogue.specs.Rules.{recordBytes, recordAt, records, isOf, firstMatch, passes, servedIn}
+use Rattle.catalogue.specs.Rules.{recordBytes, recordAt, records, isOf, firstMatch, passes, seenBy, servedIn}
 use Rattle.catalogue.proofs.Laws.{look-up-made, look-up-met}
 use Rattle.catalogue.proofs.Refusals.{look-up-query}
+use Rattle.catalogue.proofs.Body.{passes-same}
+use Rattle.catalogue.proofs.Places.{record-size}
+use Rattle.catalogue.proofs.Visitors.{body-seen}
 use Rattle.codes.specs.Codes.{codeOf}
 use Rattle.codes.proofs.Laws.{code-refused}
 use Rattle.batch.specs.Rules.{zeroRecord, aloneOf, partOf, replyCode}
@@ -115,10 +118,10 @@ module _ (query catalogue : List ℕ) (j : ℕ) (passed : checkOf query ≡ O.Do
 
 -- ---- before the walk
 
-pub held-start : (query catalogue : List ℕ) → (heldPart (heldOf query catalogue 0) catalogue ≡ zeroRecord) × (replyCode (heldOf query catalogue 0) ≡ checkCode query)
-held-start query catalogue = go (held query catalogue 0)
+pub held-start : (who : ℕ) (query catalogue : List ℕ) → (heldPart who (heldOf query catalogue 0) catalogue ≡ zeroRecord) × (replyCode (heldOf query catalogue 0) ≡ checkCode query)
+held-start who query catalogue = go (held query catalogue 0)
   where
-    go : Held query catalogue 0 → (heldPart (heldOf query catalogue 0) catalogue ≡ zeroRecord) × (replyCode (heldOf query catalogue 0) ≡ checkCode query)
+    go : Held query catalogue 0 → (heldPart who (heldOf query catalogue 0) catalogue ≡ zeroRecord) × (replyCode (heldOf query catalogue 0) ≡ checkCode query)
     go (looking e h z) = (rw z, rw (z, e))
     go (met e h z) = absurd (omega arith)
     go (refused r e z) = (rw z, rw (z, e))
@@ -139,8 +142,8 @@ both-no false = refl
 
 -- a query that does not take the record keeps its part and its reply
 pub kept :
-    (query entry part : List ℕ) (j reply : ℕ) → takes query entry reply ≡ false → (offeredPart query entry part reply ≡ part) × (offeredCode query entry j reply ≡ reply)
-kept query entry part j reply h = (rw h, rw h)
+    (who : ℕ) (query entry part : List ℕ) (j reply : ℕ) → takes query entry reply ≡ false → (offeredPart who query entry part reply ≡ part) × (offeredCode query entry j reply ≡ reply)
+kept who query entry part j reply h = (rw h, rw h)
 
 pub not-its : (query entry : List ℕ) (reply : ℕ) → isOf query entry ≡ false → takes query entry reply ≡ false
 not-its query entry reply h = rw (h, both-no)
@@ -148,22 +151,22 @@ not-its query entry reply h = rw (h, both-no)
 not-looking : (query entry : List ℕ) (reply : ℕ) → (reply ≡ 0 → ⊥) → takes query entry reply ≡ false
 not-looking query entry reply h = rw (ne-eqb reply 0 h)
 
-module _ (query catalogue : List ℕ) (j : ℕ) where
+module _ (who : ℕ) (query catalogue : List ℕ) (j : ℕ) where
   -- record j offered to what is held
   abbrev Next : LookedUp → LookedUp → Type 0
   Next t t' =
-      (offeredPart query (recordAt catalogue j) (heldPart t catalogue) (replyCode t) ≡ heldPart t' catalogue)
+      (offeredPart who query (recordAt catalogue j) (heldPart who t catalogue) (replyCode t) ≡ heldPart who t' catalogue)
       × (offeredCode query (recordAt catalogue j) j (replyCode t) ≡ replyCode t')
 
   stays : (t : LookedUp) → takes query (recordAt catalogue j) (replyCode t) ≡ false → Next t t
-  stays t h = kept query (recordAt catalogue j) (heldPart t catalogue) j (replyCode t) h
+  stays t h = kept who query (recordAt catalogue j) (heldPart who t catalogue) j (replyCode t) h
 
   taken : isOf query (recordAt catalogue j) ≡ true → Next S.Made (S.Found j)
   taken h = (rw h, rw h (omega arith))
 
   over : {t u t' u' : LookedUp} → t ≡ u → t' ≡ u' → Next u u' → Next t t'
   over {t} {u} {t'} {u'} e e' n = (
-    ap (λ (x : LookedUp). offeredPart query (recordAt catalogue j) (heldPart x catalogue) (replyCode x)) e ∙ n .0 ∙ ap (λ (x : LookedUp). heldPart x catalogue) (sym e'),
+    ap (λ (x : LookedUp). offeredPart who query (recordAt catalogue j) (heldPart who x catalogue) (replyCode x)) e ∙ n .0 ∙ ap (λ (x : LookedUp). heldPart who x catalogue) (sym e'),
     ap (λ (x : LookedUp). offeredCode query (recordAt catalogue j) j (replyCode x)) e ∙ n .1 ∙ ap replyCode (sym e'),
   )
 
@@ -198,17 +201,17 @@ module _ (who : ℕ) (query catalogue : List ℕ) (whole : length catalogue % re
   -- what is held, settled, is what the query gets alone
   abbrev Ended : LookedUp → LookedUp → Type 0
   Ended t t' =
-      (settledPart (checkOf query) who query (heldPart t catalogue) (replyCode t) ≡ servedIn who t' query catalogue zeroRecord)
-      × (settledCode (checkOf query) query (heldPart t catalogue) (replyCode t) ≡ replyCode t')
+      (settledPart (checkOf query) query (heldPart who t catalogue) (replyCode t) ≡ servedIn who t' query catalogue zeroRecord)
+      × (settledCode (checkOf query) query (heldPart who t catalogue) (replyCode t) ≡ replyCode t')
 
   ended : {t t' : LookedUp} → heldOf query catalogue (records catalogue) ≡ t → aloneOf query catalogue ≡ t' → Ended t t'
-      → (settledPart (checkOf query) who query (heldPart (heldOf query catalogue (records catalogue)) catalogue) (replyCode (heldOf query catalogue (records catalogue)))
+      → (settledPart (checkOf query) query (heldPart who (heldOf query catalogue (records catalogue)) catalogue) (replyCode (heldOf query catalogue (records catalogue)))
       ≡ partOf who query catalogue)
-      × (settledCode (checkOf query) query (heldPart (heldOf query catalogue (records catalogue)) catalogue) (replyCode (heldOf query catalogue (records catalogue)))
+      × (settledCode (checkOf query) query (heldPart who (heldOf query catalogue (records catalogue)) catalogue) (replyCode (heldOf query catalogue (records catalogue)))
       ≡ replyCode (aloneOf query catalogue))
   ended {t} {t'} z e n = (
-    ap (λ (x : LookedUp). settledPart (checkOf query) who query (heldPart x catalogue) (replyCode x)) z ∙ n .0 ∙ sym (part-is who query catalogue e),
-    ap (λ (x : LookedUp). settledCode (checkOf query) query (heldPart x catalogue) (replyCode x)) z ∙ n .1 ∙ ap replyCode (sym e),
+    ap (λ (x : LookedUp). settledPart (checkOf query) query (heldPart who x catalogue) (replyCode x)) z ∙ n .0 ∙ sym (part-is who query catalogue e),
+    ap (λ (x : LookedUp). settledCode (checkOf query) query (heldPart who x catalogue) (replyCode x)) z ∙ n .1 ∙ ap replyCode (sym e),
   )
 
   end-refused : (r : Refusal) → checkOf query ≡ O.Refused r → Ended (S.Refused r) (S.Refused r)
@@ -217,25 +220,36 @@ module _ (who : ℕ) (query catalogue : List ℕ) (whole : length catalogue % re
   end-made : checkOf query ≡ O.Done → Ended S.Made S.Made
   end-made e = (rw e, rw e)
 
-  end-met : checkOf query ≡ O.Done → (i : ℕ) (g : Bool) → passes (sequenceOf query) (recordAt catalogue i) ≡ g → Ended (S.Found i) (pick g (S.Found i) (S.Refused R.Record))
-  end-met e i true h = (rw (e, ne-eqb (replyCode (S.Found i)) 0 (not-found i), h), rw (e, ne-eqb (replyCode (S.Found i)) 0 (not-found i), h))
-  end-met e i false h = (rw (e, ne-eqb (replyCode (S.Found i)) 0 (not-found i), h), rw (e, ne-eqb (replyCode (S.Found i)) 0 (not-found i), h))
+  -- a record is tested as who asks sees it: the number has no part in the test
+  seen-passes : (i : ℕ) → i < records catalogue → passes (sequenceOf query) (seenBy who (recordAt catalogue i)) ≡ passes (sequenceOf query) (recordAt catalogue i)
+  seen-passes i h =
+      passes-same (sequenceOf query) (seenBy who (recordAt catalogue i)) (recordAt catalogue i)
+      (body-seen who (recordAt catalogue i) (omega (arith, record-size catalogue i h)))
+
+  end-met :
+      checkOf query ≡ O.Done → (i : ℕ) → i < records catalogue → (g : Bool) → passes (sequenceOf query) (recordAt catalogue i) ≡ g
+      → Ended (S.Found i) (pick g (S.Found i) (S.Refused R.Record))
+  end-met e i l g h = go g (seen-passes i l ∙ h)
+    where
+      go : (g : Bool) → passes (sequenceOf query) (seenBy who (recordAt catalogue i)) ≡ g → Ended (S.Found i) (pick g (S.Found i) (S.Refused R.Record))
+      go true k = (rw (e, ne-eqb (replyCode (S.Found i)) 0 (not-found i), k), rw (e, ne-eqb (replyCode (S.Found i)) 0 (not-found i), k))
+      go false k = (rw (e, ne-eqb (replyCode (S.Found i)) 0 (not-found i), k), rw (e, ne-eqb (replyCode (S.Found i)) 0 (not-found i), k))
 
   pub held-end :
-      (settledPart (checkOf query) who query (heldPart (heldOf query catalogue (records catalogue)) catalogue) (replyCode (heldOf query catalogue (records catalogue)))
+      (settledPart (checkOf query) query (heldPart who (heldOf query catalogue (records catalogue)) catalogue) (replyCode (heldOf query catalogue (records catalogue)))
       ≡ partOf who query catalogue)
-      × (settledCode (checkOf query) query (heldPart (heldOf query catalogue (records catalogue)) catalogue) (replyCode (heldOf query catalogue (records catalogue)))
+      × (settledCode (checkOf query) query (heldPart who (heldOf query catalogue (records catalogue)) catalogue) (replyCode (heldOf query catalogue (records catalogue)))
       ≡ replyCode (aloneOf query catalogue))
   unfolding aloneOf
   held-end = go (held query catalogue (records catalogue))
     where
       go : Held query catalogue (records catalogue)
-          → (settledPart (checkOf query) who query (heldPart (heldOf query catalogue (records catalogue)) catalogue) (replyCode (heldOf query catalogue (records catalogue)))
+          → (settledPart (checkOf query) query (heldPart who (heldOf query catalogue (records catalogue)) catalogue) (replyCode (heldOf query catalogue (records catalogue)))
           ≡ partOf who query catalogue)
-          × (settledCode (checkOf query) query (heldPart (heldOf query catalogue (records catalogue)) catalogue) (replyCode (heldOf query catalogue (records catalogue)))
+          × (settledCode (checkOf query) query (heldPart who (heldOf query catalogue (records catalogue)) catalogue) (replyCode (heldOf query catalogue (records catalogue)))
           ≡ replyCode (aloneOf query catalogue))
       go (looking e h z) = ended z (look-up-made query catalogue zeroRecord zero-long e whole h) (end-made e)
       go (met e h z) =
           ended z (look-up-met query catalogue zeroRecord zero-long e whole h)
-          (end-met e (firstMatch query catalogue (records catalogue)) (passes (sequenceOf query) (recordAt catalogue (firstMatch query catalogue (records catalogue)))) refl)
+          (end-met e (firstMatch query catalogue (records catalogue)) h (passes (sequenceOf query) (recordAt catalogue (firstMatch query catalogue (records catalogue)))) refl)
       go (refused r e z) = ended z (look-up-query query catalogue zeroRecord zero-long e) (end-refused r e)

@@ -46,9 +46,9 @@ marked-more queries marks i k m e small =
 
 -- so it was offered to every query, and nothing changed
 pub passed-by :
-    (queries marks entry out replies : List ℕ) (j k : ℕ) → length out ≡ queriesIn queries * recordBytes → length replies ≡ queriesIn queries
-    → Marked queries marks (queriesIn queries) → k ≡ slotOf entry → at marks k ≡ 0 → Offered queries entry j out replies out replies
-passed-by queries marks entry out replies j k w n m e none =
+    (who : ℕ) (queries marks entry out replies : List ℕ) (j k : ℕ) → length out ≡ queriesIn queries * recordBytes → length replies ≡ queriesIn queries
+    → Marked queries marks (queriesIn queries) → k ≡ slotOf entry → at marks k ≡ 0 → Offered who queries entry j out replies out replies
+passed-by who queries marks entry out replies j k w n m e none =
     record {
       wide = w;
       many = n;
@@ -66,5 +66,5 @@ passed-by queries marks entry out replies j k w n m e none =
 
     same :
         (i : ℕ) → i < queriesIn queries → (part : List ℕ) (reply : ℕ)
-        → (offeredPart (queryAt queries i) entry part reply ≡ part) × (offeredCode (queryAt queries i) entry j reply ≡ reply)
-    same i h part reply = kept (queryAt queries i) entry part j reply (not-its (queryAt queries i) entry reply (other i h))
+        → (offeredPart who (queryAt queries i) entry part reply ≡ part) × (offeredCode (queryAt queries i) entry j reply ≡ reply)
+    same i h part reply = kept who (queryAt queries i) entry part j reply (not-its (queryAt queries i) entry reply (other i h))

@@ -1,15 +1,15 @@
 -- Parts of a buffer, each as long as a record, end to end: one of them renewed, and all of them.
 -- Assumes nothing.
 use mathlib.Core.Path.{_≡_, refl, sym, ap, ap₂, _∙_}
-use mathlib.Core.List.{List, [], _∷_, _++_, append-nil}
+use mathlib.Core.List.{List, [], _∷_, _++_}
 use Prim.Native.Nat.{ℕ, zero, suc, _+_, _-_, _*_, _≤_, _<_}
 use native.Mathlib.Omega.{arith}
-use lib.ListN.{length, take, drop, replicate, length-append, length-drop, length-replicate, drop-of-length-le, take-append-drop, getD-replicate}
+use lib.ListN.{length, take, drop, replicate, length-append, length-drop, length-replicate, take-append-drop, getD-replicate}
 use lib.Seq.{take-at, drop-at, take-take, drop-drop, length-take-le, getD-take, getD-drop, ext-getD}
 use borrow.Rule.Slice.PartMut.{putMid, same-len-mid, mid-len, take-put, drop-put}
 use Rattle.lists.specs.Table.{at, tabulate}
 use Rattle.sequence.specs.Limits.{queryBytes}
-use Rattle.catalogue.specs.Rules.{recordBytes, bodyBytes, body, noNumber, recordAt}
+use Rattle.catalogue.specs.Rules.{recordBytes, recordAt}
 use Rattle.batch.specs.Rules.{queryAt, zeroRecord, endToEnd}
 
 -- ---- one part renewed
@@ -118,14 +118,6 @@ zero-part n i h = ext-getD 0 (recordAt (replicate n 0) i) (replicate recordBytes
         getD-take recordBytes (drop (i * recordBytes) (replicate n 0)) j 0 b ∙ getD-drop (i * recordBytes) (replicate n 0) j 0
         ∙ getD-replicate n (i * recordBytes + j) 0 0 (omega arith)
         ∙ sym (getD-replicate recordBytes j 0 0 b)
-
--- ---- a record whose number is hidden where it lies
-
-pub veiled : (part y : List ℕ) → length part ≡ recordBytes → y ≡ noNumber → putMid bodyBytes 2 part y ≡ body part ++ noNumber
-veiled part y h e = ap (λ (z : List ℕ). body part ++ (y ++ z)) none ∙ ap (λ (z : List ℕ). body part ++ z) (append-nil y ∙ e)
-  where
-    none : drop 2 (drop bodyBytes part) ≡ []
-    none = drop-of-length-le (drop bodyBytes part) {i = 2} (omega (arith, length-drop bodyBytes part))
 
 -- ---- query i, as the code cuts it out
 

@@ -115,27 +115,27 @@ module _ (queries : List ℕ) (F : List ℕ → List ℕ → ℕ → List ℕ) (
           ∙ ap (H (queryAt queries i) (recordAt out₀ i)) (t .codes i (le-refl i))
 
 -- the queries below i were offered record j
-abbrev pub Offering : (queries entry : List ℕ) (j : ℕ) (out₀ replies₀ : List ℕ) (i : ℕ) (out replies : List ℕ) → Type 0
-Offering queries entry j out₀ replies₀ =
-    Turn (λ k. offeredPart (queryAt queries k) entry (recordAt out₀ k) (at replies₀ k)) (λ k. offeredCode (queryAt queries k) entry j (at replies₀ k)) (queriesIn queries)
+abbrev pub Offering : (who : ℕ) (queries entry : List ℕ) (j : ℕ) (out₀ replies₀ : List ℕ) (i : ℕ) (out replies : List ℕ) → Type 0
+Offering who queries entry j out₀ replies₀ =
+    Turn (λ k. offeredPart who (queryAt queries k) entry (recordAt out₀ k) (at replies₀ k)) (λ k. offeredCode (queryAt queries k) entry j (at replies₀ k)) (queriesIn queries)
     out₀ replies₀
 
 pub offering-more :
-    (queries entry : List ℕ) (j : ℕ) {out₀ replies₀ : List ℕ} {i : ℕ} {out replies : List ℕ} (y : List ℕ) (v : ℕ) → Offering queries entry j out₀ replies₀ i out replies
+    (who : ℕ) (queries entry : List ℕ) (j : ℕ) {out₀ replies₀ : List ℕ} {i : ℕ} {out replies : List ℕ} (y : List ℕ) (v : ℕ) → Offering who queries entry j out₀ replies₀ i out replies
     → i < length replies → length y ≡ length (partCut out i) → v ≡ offeredCode (queryCut queries i) entry j (at replies i)
-    → y ≡ offeredPart (queryCut queries i) entry (partCut out i) (at replies i) → Offering queries entry j out₀ replies₀ (i + 1) (putPart out i y) (set replies i v)
-offering-more queries entry j = turn-next queries (λ q p r. offeredPart q entry p r) (λ q p r. offeredCode q entry j r)
+    → y ≡ offeredPart who (queryCut queries i) entry (partCut out i) (at replies i) → Offering who queries entry j out₀ replies₀ (i + 1) (putPart out i y) (set replies i v)
+offering-more who queries entry j = turn-next queries (λ q p r. offeredPart who q entry p r) (λ q p r. offeredCode q entry j r)
 
 -- the queries below i are settled
-abbrev pub Settling : (who : ℕ) (queries out₀ replies₀ : List ℕ) (i : ℕ) (out replies : List ℕ) → Type 0
-Settling who queries out₀ replies₀ =
-    Turn (λ k. settledPart (checkOf (queryAt queries k)) who (queryAt queries k) (recordAt out₀ k) (at replies₀ k))
+abbrev pub Settling : (queries out₀ replies₀ : List ℕ) (i : ℕ) (out replies : List ℕ) → Type 0
+Settling queries out₀ replies₀ =
+    Turn (λ k. settledPart (checkOf (queryAt queries k)) (queryAt queries k) (recordAt out₀ k) (at replies₀ k))
     (λ k. settledCode (checkOf (queryAt queries k)) (queryAt queries k) (recordAt out₀ k) (at replies₀ k)) (queriesIn queries)
     out₀ replies₀
 
 pub settling-more :
-    (who : ℕ) (queries : List ℕ) {out₀ replies₀ : List ℕ} {i : ℕ} {out replies : List ℕ} (y : List ℕ) (v : ℕ) → Settling who queries out₀ replies₀ i out replies
+    (queries : List ℕ) {out₀ replies₀ : List ℕ} {i : ℕ} {out replies : List ℕ} (y : List ℕ) (v : ℕ) → Settling queries out₀ replies₀ i out replies
     → i < length replies → length y ≡ length (partCut out i) → v ≡ settledCode (checkOf (queryCut queries i)) (queryCut queries i) (partCut out i) (at replies i)
-    → y ≡ settledPart (checkOf (queryCut queries i)) who (queryCut queries i) (partCut out i) (at replies i)
-    → Settling who queries out₀ replies₀ (i + 1) (putPart out i y) (set replies i v)
-settling-more who queries = turn-next queries (λ q p r. settledPart (checkOf q) who q p r) (λ q p r. settledCode (checkOf q) q p r)
+    → y ≡ settledPart (checkOf (queryCut queries i)) (queryCut queries i) (partCut out i) (at replies i)
+    → Settling queries out₀ replies₀ (i + 1) (putPart out i y) (set replies i v)
+settling-more queries = turn-next queries (λ q p r. settledPart (checkOf q) q p r) (λ q p r. settledCode (checkOf q) q p r)

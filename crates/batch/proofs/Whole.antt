@@ -33,6 +33,9 @@ use Rattle.batch.proofs.Counting.{found-counted, made-counted, refused-
 
 -- ---- the lengths
 
+pub fits-whole : (q o r : ℕ) → lengthsFit q o r ≡ true → q % queryBytes ≡ 0
+fits-whole q o r h = eqb-true _ _ (both-left (eqb (q % queryBytes) 0) _ h)
+
 pub fits-out : (q o r : ℕ) → lengthsFit q o r ≡ true → o ≡ q / queryBytes * recordBytes
 fits-out q o r h = eqb-true _ _ (both-left (eqb o (q / queryBytes * recordBytes)) _ (both-right (eqb (q % queryBytes) 0) _ h))
 
@@ -68,24 +71,24 @@ done-right q c o r h = go (lengthsFit q o r) (ltb maxQueries (q / queryBytes)) (
 -- ---- the walk
 
 pub begun :
-    (queries catalogue out₀ out replies : List ℕ) → length out₀ ≡ queriesIn queries * recordBytes → out ≡ replicate (length out₀) 0
-    → replies ≡ tabulate (queriesIn queries) (λ i. checkCode (queryAt queries i)) → Holding queries catalogue 0 out replies
-begun queries catalogue out₀ out replies w eo er =
+    (who : ℕ) (queries catalogue out₀ out replies : List ℕ) → length out₀ ≡ queriesIn queries * recordBytes → out ≡ replicate (length out₀) 0
+    → replies ≡ tabulate (queriesIn queries) (λ i. checkCode (queryAt queries i)) → Holding who queries catalogue 0 out replies
+begun who queries catalogue out₀ out replies w eo er =
     record {
       wide = ap length eo ∙ length-replicate {A = ℕ} (length out₀) 0 ∙ w;
       many = ap length er ∙ length-tabulate (queriesIn queries) (λ i. checkCode (queryAt queries i));
-      shown = λ i h. ap (λ (x : List ℕ). recordAt x i) eo ∙ zero-part (length out₀) i (omega (arith, w)) ∙ sym (held-start (queryAt queries i) catalogue .0);
+      shown = λ i h. ap (λ (x : List ℕ). recordAt x i) eo ∙ zero-part (length out₀) i (omega (arith, w)) ∙ sym (held-start who (queryAt queries i) catalogue .0);
       told = λ i h.
-          ap (λ (x : List ℕ). at x i) er ∙ at-tabulate (queriesIn queries) (λ i. checkCode (queryAt queries i)) i h ∙ sym (held-start (queryAt queries i) catalogue .1);
+          ap (λ (x : List ℕ). at x i) er ∙ at-tabulate (queriesIn queries) (λ i. checkCode (queryAt queries i)) i h ∙ sym (held-start who (queryAt queries i) catalogue .1);
     }
 
 -- record j, as the walk cuts it out, offered to every query
 pub holding-more :
-    (queries catalogue out replies out' replies' : List ℕ) (j : ℕ) → Holding queries catalogue j out replies
-    → Offered queries (take (j * recordBytes + recordBytes - j * recordBytes) (drop (j * recordBytes) catalogue)) j out replies out' replies'
-    → Holding queries catalogue (j + 1) out' replies'
-holding-more queries catalogue out replies out' replies' j s o =
-    subst (λ (k : ℕ). Holding queries catalogue k out' replies') (sym (add-one j))
+    (who : ℕ) (queries catalogue out replies out' replies' : List ℕ) (j : ℕ) → Holding who queries catalogue j out replies
+    → Offered who queries (take (j * recordBytes + recordBytes - j * recordBytes) (drop (j * recordBytes) catalogue)) j out replies out' replies'
+    → Holding who queries catalogue (j + 1) out' replies'
+holding-more who queries catalogue out replies out' replies' j s o =
+    subst (λ (k : ℕ). Holding who queries catalogue k out' replies') (sym (add-one j))
     (record { wide = o .wide; many = o .many; shown = λ i h. o .shown i h ∙ parts i h; told = λ i h. o .told i h ∙ codes i h })
   where
     cut : take (j * recordBytes + recordBytes - j * recordBytes) (drop (j * recordBytes) catalogue) ≡ recordAt catalogue j
@@ -93,12 +96,12 @@ holding-more queries catalogue out replies out' replies' j s o =
 
     parts :
         (i : ℕ) → i < queriesIn queries
-        → offeredPart (queryAt queries i) (take (j * recordBytes + recordBytes - j * recordBytes) (drop (j * recordBytes) catalogue)) (recordAt out i) (at replies i)
-        ≡ heldPart (heldOf (queryAt queries i) catalogue (suc j)) catalogue
+        → offeredPart who (queryAt queries i) (take (j * recordBytes + recordBytes - j * recordBytes) (drop (j * recordBytes) catalogue)) (recordAt out i) (at replies i)
+        ≡ heldPart who (heldOf (queryAt queries i) catalogue (suc j)) catalogue
     parts i h =
-        ap (λ (e : List ℕ). offeredPart (queryAt queries i) e (recordAt out i) (at replies i)) cut
-        ∙ ap₂ (λ (p : List ℕ) (r : ℕ). offeredPart (queryAt queries i) (recordAt catalogue j) p r) (s .shown i h) (s .told i h)
-        ∙ held-next (queryAt queries i) catalogue j .0
+        ap (λ (e : List ℕ). offeredPart who (queryAt queries i) e (recordAt out i) (at replies i)) cut
+        ∙ ap₂ (λ (p : List ℕ) (r : ℕ). offeredPart who (queryAt queries i) (recordAt catalogue j) p r) (s .shown i h) (s .told i h)
+        ∙ held-next who (queryAt queries i) catalogue j .0
 
     codes :
         (i : ℕ) → i < queriesIn queries
@@ -107,19 +110,19 @@ holding-more queries catalogue out replies out' replies' j s o =
     codes i h =
         ap (λ (e : List ℕ). offeredCode (queryAt queries i) e j (at replies i)) cut
         ∙ ap (offeredCode (queryAt queries i) (recordAt catalogue j) j) (s .told i h)
-        ∙ held-next (queryAt queries i) catalogue j .1
+        ∙ held-next who (queryAt queries i) catalogue j .1
 
 -- what is held after all records, settled
 pub answered :
-    (who : ℕ) (queries catalogue out replies out' replies' : List ℕ) → length catalogue % recordBytes ≡ 0 → Holding queries catalogue (records catalogue) out replies
-    → Settled who queries out replies out' replies' → Answered who queries catalogue out' replies'
+    (who : ℕ) (queries catalogue out replies out' replies' : List ℕ) → length catalogue % recordBytes ≡ 0 → Holding who queries catalogue (records catalogue) out replies
+    → Settled queries out replies out' replies' → Answered who queries catalogue out' replies'
 answered who queries catalogue out replies out' replies' whole s o =
     record {
       wide = o .wide;
       many = o .many;
       shown = λ i h.
           o .shown i h
-          ∙ ap₂ (λ (p : List ℕ) (r : ℕ). settledPart (checkOf (queryAt queries i)) who (queryAt queries i) p r) (s .shown i h) (s .told i h)
+          ∙ ap₂ (λ (p : List ℕ) (r : ℕ). settledPart (checkOf (queryAt queries i)) (queryAt queries i) p r) (s .shown i h) (s .told i h)
           ∙ held-end who (queryAt queries i) catalogue whole .0;
       told = λ i h.
           o .told i h

@@ -32,11 +32,11 @@ metOf j i = pick (ltb i j) (S.Found i) S.Made
 unfoldable pub heldOf : List ℕ → List ℕ → ℕ → LookedUp
 heldOf query catalogue j = orElse (checkOf query) (metOf j (firstMatch query catalogue j))
 
--- and in its part: the record that it met, or zeros
-abbrev pub heldPart : LookedUp → List ℕ → List ℕ
-heldPart (S.Found i) catalogue = recordAt catalogue i
-heldPart S.Made catalogue = zeroRecord
-heldPart (S.Refused r) catalogue = zeroRecord
+-- and in its part: the record that it met, as who asks sees it, or zeros
+abbrev pub heldPart : (who : ℕ) → LookedUp → (catalogue : List ℕ) → List ℕ
+heldPart who (S.Found i) catalogue = seenBy who (recordAt catalogue i)
+heldPart who S.Made catalogue = zeroRecord
+heldPart who (S.Refused r) catalogue = zeroRecord
 
 -- n parts and n replies, each as a rule says
 pub record Standing (n : ℕ) (part : ℕ → List ℕ) (reply : ℕ → ℕ) (out replies : List ℕ) : Type 0 where
@@ -46,10 +46,10 @@ pub record Standing (n : ℕ) (part : ℕ → List ℕ) (reply : ℕ → ℕ) (o
   pub told : (i : ℕ) → i < n → at replies i ≡ reply i
 
 -- after the first j records the walk holds this for every query
-abbrev pub Holding : (queries catalogue : List ℕ) (j : ℕ) (out replies : List ℕ) → Type 0
-Holding queries catalogue j =
+abbrev pub Holding : (who : ℕ) (queries catalogue : List ℕ) (j : ℕ) (out replies : List ℕ) → Type 0
+Holding who queries catalogue j =
     Standing (queriesIn queries)
-    (λ i. heldPart (heldOf (queryAt queries i) catalogue j) catalogue)
+    (λ i. heldPart who (heldOf (queryAt queries i) catalogue j) catalogue)
     (λ i. replyCode (heldOf (queryAt queries i) catalogue j))
 
 -- in the end each query has what it gets alone
@@ -69,17 +69,17 @@ checkCode query = codeOf (outcomeAnswer (checkOf query))
 abbrev pub takes : (query entry : List ℕ) (reply : ℕ) → Bool
 takes query entry reply = both (eqb reply 0) (isOf query entry)
 
-abbrev pub offeredPart : (query entry part : List ℕ) (reply : ℕ) → List ℕ
-offeredPart query entry part reply = pick (takes query entry reply) entry part
+abbrev pub offeredPart : (who : ℕ) (query entry part : List ℕ) (reply : ℕ) → List ℕ
+offeredPart who query entry part reply = pick (takes query entry reply) (seenBy who entry) part
 
 abbrev pub offeredCode : (query entry : List ℕ) (j reply : ℕ) → ℕ
 offeredCode query entry j reply = pick (takes query entry reply) (256 * (1 + j)) reply
 
 -- record j was offered to every query
-abbrev pub Offered : (queries entry : List ℕ) (j : ℕ) (out replies out' replies' : List ℕ) → Type 0
-Offered queries entry j out replies =
+abbrev pub Offered : (who : ℕ) (queries entry : List ℕ) (j : ℕ) (out replies out' replies' : List ℕ) → Type 0
+Offered who queries entry j out replies =
     Standing (queriesIn queries)
-    (λ i. offeredPart (queryAt queries i) entry (recordAt out i) (at replies i))
+    (λ i. offeredPart who (queryAt queries i) entry (recordAt out i) (at replies i))
     (λ i. offeredCode (queryAt queries i) entry j (at replies i))
 
 -- A record that no query can take is passed by. Of 1,021 slots those are marked in which the first four terms of a query fall, as one number.
@@ -97,25 +97,25 @@ pub record Marked (queries marks : List ℕ) (n : ℕ) : Type 0 where
 -- ---- after the last record
 
 -- A query that passed its checks: the record is made if it met none; the one that it met is tested in its part, and gives way to zeros with 24.
-abbrev pub testedPart : (who : ℕ) (query : List ℕ) (s : Sequence) (part : List ℕ) (reply : ℕ) → List ℕ
-testedPart who query s part reply = pick (eqb reply 0) (recordOf query) (pick (passes s part) (seenBy who part) zeroRecord)
+abbrev pub testedPart : (query : List ℕ) (s : Sequence) (part : List ℕ) (reply : ℕ) → List ℕ
+testedPart query s part reply = pick (eqb reply 0) (recordOf query) (pick (passes s part) part zeroRecord)
 
 abbrev pub testedCode : (s : Sequence) (part : List ℕ) (reply : ℕ) → ℕ
 testedCode s part reply = pick (eqb reply 0) 0 (pick (passes s part) reply (codeOf (refusal R.Record)))
 
 -- one that did not keeps its zeros and its refusal
-abbrev pub settledPart : (checks : Outcome) (who : ℕ) (query part : List ℕ) (reply : ℕ) → List ℕ
-settledPart O.Done who query part reply = testedPart who query (sequenceOf query) part reply
-settledPart (O.Refused r) who query part reply = part
+abbrev pub settledPart : (checks : Outcome) (query part : List ℕ) (reply : ℕ) → List ℕ
+settledPart O.Done query part reply = testedPart query (sequenceOf query) part reply
+settledPart (O.Refused r) query part reply = part
 
 abbrev pub settledCode : (checks : Outcome) (query part : List ℕ) (reply : ℕ) → ℕ
 settledCode O.Done query part reply = testedCode (sequenceOf query) part reply
 settledCode (O.Refused r) query part reply = reply
 
-abbrev pub Settled : (who : ℕ) (queries out replies out' replies' : List ℕ) → Type 0
-Settled who queries out replies =
+abbrev pub Settled : (queries out replies out' replies' : List ℕ) → Type 0
+Settled queries out replies =
     Standing (queriesIn queries)
-    (λ i. settledPart (checkOf (queryAt queries i)) who (queryAt queries i) (recordAt out i) (at replies i))
+    (λ i. settledPart (checkOf (queryAt queries i)) (queryAt queries i) (recordAt out i) (at replies i))
     (λ i. settledCode (checkOf (queryAt queries i)) (queryAt queries i) (recordAt out i) (at replies i))
 
 -- ---- counting the replies

@@ -2,8 +2,6 @@
 //
 // Each reply is one number, as C gets it from looking up: 0 is made, 256 times 1 + the place is found, else it is a refusal. While the walk goes,
 // 0 says that the query looks, so that the lent replies are all that the walk must remember; a record that is met goes to its part at once.
-use catalogue::EDITOR;
-use catalogue::NUMBER_PLACE;
 use catalogue::RECORD_BYTES;
 use sequence::Outcome;
 use sequence::QUERY_BYTES;
@@ -16,7 +14,7 @@ ghost use lib.ListN.{length, replicate};
 ghost use Rattle.lists.specs.Table.{tabulate};
 ghost use Rattle.sequence.specs.Limits.{queryBytes};
 ghost use Rattle.sequence.specs.Rules.{IsSound, sequenceOf, checkOf};
-ghost use Rattle.catalogue.specs.Rules.{recordBytes, records, seenBy};
+ghost use Rattle.catalogue.specs.Rules.{recordBytes, records};
 ghost use Rattle.batch.specs.Rules.{queryAt, queriesIn, zeroRecord, lengthsFit, refusedBy, refusedWhole, lookUpBatchOf, batchAnswer, lookUpBatchAnswer, partsIn, repliesIn};
 ghost use Rattle.batch.specs.Walk.{Holding, Answered, checkCode, offeredPart, offeredCode, Offered, slots, slotOf, Marked, testedPart, testedCode, settledPart, settledCode, Settled, kindOf, markOf, ofKind};
 
@@ -68,28 +66,28 @@ fn check_all(queries: &[u8], replies: &mut [u64])
     }
 }
 
-// Offers record j to a query. If it takes the record, this is copied to its part.
-fn offer(query: &[u8], entry: &[u8], j: usize, part: &mut [u8], reply: u64) -> u64
+// Offers record j to a query. If it takes the record, this goes to its part as who asks sees it.
+fn offer(query: &[u8], entry: &[u8], j: usize, who: u64, part: &mut [u8], reply: u64) -> u64
     requires { ⌜ (length (now query) ≡ queryBytes) × (length (now entry) ≡ recordBytes) × (length (now part) ≡ recordBytes)
         × (256 * (1 + j) < 18446744073709551616) ⌝ }
     ensures { λ r. ⌜ r ≡ offeredCode (now (query .entry)) (now (entry .entry)) j reply ⌝ }
-    ensures { λ _. ⌜ now (part .exit) ≡ offeredPart (now (query .entry)) (now (entry .entry)) (now (part .entry)) reply ⌝ }
+    ensures { λ _. ⌜ now (part .exit) ≡ offeredPart who (now (query .entry)) (now (entry .entry)) (now (part .entry)) reply ⌝ }
 {
     if reply != 0 {
         return reply;
     }
     if catalogue::is_of(query, entry) {
-        cells::copy(entry, part);
+        catalogue::show(entry, who, part);
         return 256 * (1 + j as u64);
     }
     reply
 }
 
 // Offers record j to every query.
-fn offer_all(queries: &[u8], entry: &[u8], j: usize, out: &mut [u8], replies: &mut [u64])
+fn offer_all(queries: &[u8], entry: &[u8], j: usize, who: u64, out: &mut [u8], replies: &mut [u64])
     requires { ⌜ (length (now entry) ≡ recordBytes) × (256 * (1 + j) < 18446744073709551616)
         × (length (now out) ≡ queriesIn (now queries) * recordBytes) × (length (now replies) ≡ queriesIn (now queries)) ⌝ }
-    ensures { λ _. ⌜ Offered (now (queries .entry)) (now (entry .entry)) j (now (out .entry)) (now (replies .entry)) (now (out .exit)) (now (replies .exit)) ⌝ }
+    ensures { λ _. ⌜ Offered who (now (queries .entry)) (now (entry .entry)) j (now (out .entry)) (now (replies .entry)) (now (out .exit)) (now (replies .exit)) ⌝ }
 {
     let mut i: usize = 0;
     while i < replies.len() {
@@ -99,6 +97,7 @@ fn offer_all(queries: &[u8], entry: &[u8], j: usize, out: &mut [u8], replies: &m
             &queries[at..at + QUERY_BYTES],
             entry,
             j,
+            who,
             &mut out[to..to + RECORD_BYTES],
             replies[i],
         );
@@ -136,26 +135,27 @@ fn pass(
     marks: &[u8; SLOTS],
     entry: &[u8],
     j: usize,
+    who: u64,
     out: &mut [u8],
     replies: &mut [u64],
 )
     requires { ⌜ (length (now entry) ≡ recordBytes) × (256 * (1 + j) < 18446744073709551616)
         × (length (now out) ≡ queriesIn (now queries) * recordBytes) × (length (now replies) ≡ queriesIn (now queries))
         × Marked (now queries) (now marks) (queriesIn (now queries)) ⌝ }
-    ensures { λ _. ⌜ Offered (now (queries .entry)) (now (entry .entry)) j (now (out .entry)) (now (replies .entry)) (now (out .exit)) (now (replies .exit)) ⌝ }
+    ensures { λ _. ⌜ Offered who (now (queries .entry)) (now (entry .entry)) j (now (out .entry)) (now (replies .entry)) (now (out .exit)) (now (replies .exit)) ⌝ }
 {
     if marks[slot(entry)] == 0 {
         return;
     }
-    offer_all(queries, entry, j, out, replies);
+    offer_all(queries, entry, j, who, out, replies);
 }
 
 // Walks along the first n records, each of which is read once: only here is the catalogue looked at. What is held after n records, for every n, is
 // the promise.
-fn walk(queries: &[u8], catalogue: &[u8], n: usize, out: &mut [u8], replies: &mut [u64])
+fn walk(queries: &[u8], catalogue: &[u8], n: usize, who: u64, out: &mut [u8], replies: &mut [u64])
     requires { ⌜ n ≤ records (now catalogue) ⌝ }
-    requires { ⌜ Holding (now queries) (now catalogue) 0 (now out) (now replies) ⌝ }
-    ensures { λ _. ⌜ Holding (now (queries .entry)) (now (catalogue .entry)) n (now (out .exit)) (now (replies .exit)) ⌝ }
+    requires { ⌜ Holding who (now queries) (now catalogue) 0 (now out) (now replies) ⌝ }
+    ensures { λ _. ⌜ Holding who (now (queries .entry)) (now (catalogue .entry)) n (now (out .exit)) (now (replies .exit)) ⌝ }
 {
     let mut marks = [0u8; SLOTS];
     mark_all(queries, &mut marks);
@@ -167,6 +167,7 @@ fn walk(queries: &[u8], catalogue: &[u8], n: usize, out: &mut [u8], replies: &mu
             &marks,
             &catalogue[at..at + RECORD_BYTES],
             j,
+            who,
             out,
             replies,
         );
@@ -174,29 +175,17 @@ fn walk(queries: &[u8], catalogue: &[u8], n: usize, out: &mut [u8], replies: &mu
     }
 }
 
-// Shows the record in a part to who asks.
-fn veil(who: u64, part: &mut [u8])
-    requires { ⌜ length (now part) ≡ recordBytes ⌝ }
-    ensures { λ _. ⌜ now (part .exit) ≡ seenBy who (now (part .entry)) ⌝ }
-{
-    if who == EDITOR {
-        return;
-    }
-    catalogue::hide(&mut part[NUMBER_PLACE..RECORD_BYTES]);
-}
-
 // The end of a query that passed its checks; s is its sequence.
-fn conclude(query: &[u8], s: Sequence, who: u64, part: &mut [u8], reply: u64) -> u64
+fn conclude(query: &[u8], s: Sequence, part: &mut [u8], reply: u64) -> u64
     requires { ⌜ (length (now query) ≡ queryBytes) × (s ≡ sequenceOf (now query)) × IsSound s × (length (now part) ≡ recordBytes) ⌝ }
     ensures { λ r. ⌜ r ≡ testedCode s (now (part .entry)) reply ⌝ }
-    ensures { λ _. ⌜ now (part .exit) ≡ testedPart who (now (query .entry)) s (now (part .entry)) reply ⌝ }
+    ensures { λ _. ⌜ now (part .exit) ≡ testedPart (now (query .entry)) s (now (part .entry)) reply ⌝ }
 {
     if reply == 0 {
         catalogue::write_record(query, s, part);
         return 0;
     }
     if catalogue::is_good(s, part) {
-        veil(who, part);
         return reply;
     }
     clear(part);
@@ -204,10 +193,10 @@ fn conclude(query: &[u8], s: Sequence, who: u64, part: &mut [u8], reply: u64) ->
 }
 
 // Settles a query after the walk.
-fn settle(query: &[u8], who: u64, part: &mut [u8], reply: u64) -> u64
+fn settle(query: &[u8], part: &mut [u8], reply: u64) -> u64
     requires { ⌜ length (now part) ≡ recordBytes ⌝ }
     ensures { λ r. ⌜ r ≡ settledCode (checkOf (now (query .entry))) (now (query .entry)) (now (part .entry)) reply ⌝ }
-    ensures { λ _. ⌜ now (part .exit) ≡ settledPart (checkOf (now (query .entry))) who (now (query .entry)) (now (part .entry)) reply ⌝ }
+    ensures { λ _. ⌜ now (part .exit) ≡ settledPart (checkOf (now (query .entry))) (now (query .entry)) (now (part .entry)) reply ⌝ }
 {
     let c = sequence::check(query);
     let o = c.outcome;
@@ -215,15 +204,15 @@ fn settle(query: &[u8], who: u64, part: &mut [u8], reply: u64) -> u64
         Outcome::Refused(_) => reply,
         Outcome::Done => {
             let s = c.sequence;
-            conclude(query, s, who, part, reply)
+            conclude(query, s, part, reply)
         }
     }
 }
 
 // Settles every query.
-fn settle_all(queries: &[u8], who: u64, out: &mut [u8], replies: &mut [u64])
+fn settle_all(queries: &[u8], out: &mut [u8], replies: &mut [u64])
     requires { ⌜ (length (now out) ≡ queriesIn (now queries) * recordBytes) × (length (now replies) ≡ queriesIn (now queries)) ⌝ }
-    ensures { λ _. ⌜ Settled who (now (queries .entry)) (now (out .entry)) (now (replies .entry)) (now (out .exit)) (now (replies .exit)) ⌝ }
+    ensures { λ _. ⌜ Settled (now (queries .entry)) (now (out .entry)) (now (replies .entry)) (now (out .exit)) (now (replies .exit)) ⌝ }
 {
     let mut i: usize = 0;
     while i < replies.len() {
@@ -231,7 +220,6 @@ fn settle_all(queries: &[u8], who: u64, out: &mut [u8], replies: &mut [u64])
         let to = i * RECORD_BYTES;
         let r = settle(
             &queries[at..at + QUERY_BYTES],
-            who,
             &mut out[to..to + RECORD_BYTES],
             replies[i],
         );
@@ -252,10 +240,11 @@ fn answer_all(queries: &[u8], catalogue: &[u8], who: u64, out: &mut [u8], replie
         queries,
         catalogue,
         catalogue.len() / RECORD_BYTES,
+        who,
         out,
         replies,
     );
-    settle_all(queries, who, out, replies);
+    settle_all(queries, out, replies);
 }
 
 // The kind of a reply.

@@ -24,7 +24,7 @@ pub const A_PLACE: usize = QUERY_BYTES + 2;
 
 pub const B_PLACE: usize = A_PLACE + A_BYTES;
 
-pub const NUMBER_PLACE: usize = B_PLACE + B_BYTES;
+const NUMBER_PLACE: usize = B_PLACE + B_BYTES;
 
 pub const RECORD_BYTES: usize = NUMBER_PLACE + 2;
 
@@ -57,7 +57,7 @@ fn write_body(query: &[u8], s: Sequence, out: &mut [u8])
 }
 
 // 0 for an accession number.
-pub fn hide(number: &mut [u8])
+fn hide(number: &mut [u8])
     requires { ⌜ length (now number) ≡ 2 ⌝ }
     ensures { λ _. ⌜ now (number .exit) ≡ noNumber ⌝ }
 {
@@ -173,7 +173,7 @@ fn show_number(number: &[u8], who: u64, out: &mut [u8])
 }
 
 // A record as who asks sees it. For a visitor the number is not even read.
-fn show(entry: &[u8], who: u64, out: &mut [u8])
+pub fn show(entry: &[u8], who: u64, out: &mut [u8])
     requires { ⌜ (length (now entry) ≡ recordBytes) × (length (now out) ≡ recordBytes) ⌝ }
     ensures { λ _. ⌜ now (out .exit) ≡ seenBy who (now (entry .entry)) ⌝ }
 {

@@ -22,3 +22,5 @@ pub mod Periods
 pub mod PeriodRows
 pub mod Census
 pub mod CensusRows
+pub mod Batches
+pub mod BatchRows

@@ -36,9 +36,9 @@ repliesAfter queries catalogue out replies = repliesIn (lookUpBatchOf queries ca
 
 -- whole queries, 778 bytes for each, and one number for each
 pub record Fitting (queries out replies : List ℕ) : Type 0 where
-  pub whole : length queries % queryBytes ≡ 0
-  pub records : length out ≡ queriesIn queries * recordBytes
-  pub replies : length replies ≡ queriesIn queries
+  pub queries-whole : length queries % queryBytes ≡ 0
+  pub records-each : length out ≡ queriesIn queries * recordBytes
+  pub replies-each : length replies ≡ queriesIn queries
 
 -- The reason of the outcome of the whole call: for each outcome the condition under which it is given.
 pub data BatchReason (queries catalogue out replies : List ℕ) (o : Outcome) : Type 0 where

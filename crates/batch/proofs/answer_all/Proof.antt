@@ -15,7 +15,7 @@ check-all-requires c κs = search needs
 walk-requires : tie.Need-walk-requires
 walk-requires c κs =
     let s = c .before .before .before .before .before .before .before .before .before .before .before .before .before .before in
-    (omega arith, begun (s .args .queries .now) (s .args .catalogue .now) (s .args .out .now) _ _ (s .pre .0) (c .before .before .before .before .before .before .before .before .clear .ensures) (c .before .before .before .before .check-all .ensures))
+    (omega arith, begun (s .args .who) (s .args .queries .now) (s .args .catalogue .now) (s .args .out .now) _ _ (s .pre .0) (c .before .before .before .before .before .before .before .before .clear .ensures) (c .before .before .before .before .check-all .ensures))
 
 settle-all-requires : tie.Need-settle-all-requires
 settle-all-requires c κs = search needs

@@ -23,19 +23,14 @@ returns c =
 is-good-requires : tie.Need-is-good-requires
 is-good-requires c κs = search needs
 
-veil-requires : tie.Need-veil-requires
-veil-requires c κs = search needs
-
 same-length-2 : tie.Need-same-length-2
 same-length-2 c = search needs
 
 returns-2 : tie.Need-returns-2
 returns-2 c =
-    let g = c .before .before .before .before .before in
-    let z = ne-eqb _ _ (c .before .before .before .before .before .before .before .if1 .left) in (
-      simp (z, ← g .is-good .ensures, c .before .before .before .before .if2 .taken),
-      simp (z, ← g .is-good .ensures, c .before .before .before .before .if2 .taken) (c .before .before .veil .ensures),
-    )
+    let g = c .before .is-good .ensures in
+    let z = ne-eqb _ _ (c .before .before .before .if1 .left) in
+    (simp (z, ← g, c .if2 .taken), simp (z, ← g, c .if2 .taken))
 
 clear-requires : tie.Need-clear-requires
 clear-requires c κs = search needs
@@ -49,10 +44,10 @@ same-length-3 c = search needs
 returns-3 : tie.Need-returns-3
 returns-3 c =
     let s = c .before .before .before .before .before .before .before .before .before .before .before in
-    let g = c .before .before .before .before .before .before in
+    let g = c .before .before .before .before .before .before .is-good .ensures in
     let z = ne-eqb _ _ (c .before .before .before .before .before .before .before .before .if1 .left) in (
-      simp (z, ← g .is-good .ensures, c .before .before .before .before .before .if2 .left) (c .refused .ensures),
-      simp (z, ← g .is-good .ensures, c .before .before .before .before .before .if2 .left) (cleared (s .args .part .now) _ (s .pre .3) (c .before .before .before .clear .ensures)),
+      simp (z, ← g, c .before .before .before .before .before .if2 .left) (c .refused .ensures),
+      simp (z, ← g, c .before .before .before .before .before .if2 .left) (cleared (s .args .part .now) _ (s .pre .3) (c .before .before .before .clear .ensures)),
     )
 
 pub conclude-spec : {M : Type 1} → statement M
@@ -63,7 +58,6 @@ conclude-spec =
     same-length
     returns
     is-good-requires
-    veil-requires
     same-length-2
     returns-2
     clear-requires

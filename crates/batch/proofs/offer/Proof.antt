@@ -12,8 +12,8 @@ returns c = (simp (ne-eqb _ _ (c .if1 .taken)), simp (ne-eqb _ _ (c .if1 .taken)
 is-of-requires : tie.Need-is-of-requires
 is-of-requires c κs = search needs
 
-copy-requires : tie.Need-copy-requires
-copy-requires c κs = search needs
+show-requires : tie.Need-show-requires
+show-requires c κs = search needs
 
 add-result : tie.Need-add-result
 add-result c = search needs
@@ -29,7 +29,7 @@ returns-2 c =
     let f = c .before .before .before .before .before in
     let z = eq-eqb _ _ (f .before .if1 .left) in (
       simp (z, ← f .is-of .ensures, c .before .before .before .before .if2 .taken),
-      simp (z, ← f .is-of .ensures, c .before .before .before .before .if2 .taken) (c .before .before .copy .ensures),
+      simp (z, ← f .is-of .ensures, c .before .before .before .before .if2 .taken) (c .before .before .show .ensures),
     )
 
 returns-3 : tie.Need-returns-3
@@ -46,7 +46,7 @@ offer-spec =
     (tie.spec
     returns
     is-of-requires
-    copy-requires
+    show-requires
     add-result
     mul-result
     same-length

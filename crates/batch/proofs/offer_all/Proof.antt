@@ -10,10 +10,10 @@ use Rattle.batch.proofs.offer_all.Statement.{statement}
 use Rattle.batch.proofs.offer_all.Tie as tie
 
 abbrev Inv-loop : tie.InvT-loop
-Inv-loop queries entry j out₀ replies₀ i₀ out replies i = Offering queries entry j out₀ replies₀ i out replies
+Inv-loop queries entry j who out₀ replies₀ i₀ out replies i = Offering who queries entry j out₀ replies₀ i out replies
 
 abbrev μ-loop : tie.MeasureT-loop
-μ-loop queries entry j out₀ replies₀ i₀ out replies i = queriesIn queries - i
+μ-loop queries entry j who out₀ replies₀ i₀ out replies i = queriesIn queries - i
 
 loop-holds : tie.Need-loop-holds Inv-loop μ-loop
 loop-holds c =
@@ -76,7 +76,7 @@ loop-again c =
     let s = c .before .before .before .before .before .before .before .before .before .before .before .before .args in
     let l = c .before .before .before .before .before .before .before .loop in
     let o = c .before .before .offer in
-    offering-more (s .queries .now) (s .entry .now) (s .j) _ _ (l .inv) (omega arith) (o .kept .1 .1 .1 .0) (o .ensures .0) (o .ensures .1)
+    offering-more (s .who) (s .queries .now) (s .entry .now) (s .j) _ _ (l .inv) (omega arith) (o .kept .1 .1 .1 .1 .0) (o .ensures .0) (o .ensures .1)
 
 same-length : tie.Need-same-length Inv-loop μ-loop
 same-length c = c .before .loop .inv .wide ∙ sym (c .before .before .before .before .before .before .pre .2)

@@ -14,7 +14,7 @@ element-copy-out-if1 c = search needs
 returns : tie.Need-returns
 returns c =
     let s = c .before .before .before .before .before .before .before in
-    passed-by (s .args .queries .now) (s .args .marks .now) (s .args .entry .now) (s .args .out .now) (s .args .replies .now) (s .args .j) _ (s .pre .2) (s .pre .3) (s .pre .4) (c .before .before .slot .ensures .0) (c .if1 .taken)
+    passed-by (s .args .who) (s .args .queries .now) (s .args .marks .now) (s .args .entry .now) (s .args .out .now) (s .args .replies .now) (s .args .j) _ (s .pre .2) (s .pre .3) (s .pre .4) (c .before .before .slot .ensures .0) (c .if1 .taken)
 
 offer-all-requires : tie.Need-offer-all-requires
 offer-all-requires c κs = search needs

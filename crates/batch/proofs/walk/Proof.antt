@@ -12,10 +12,10 @@ use Rattle.batch.proofs.walk.Statement.{statement}
 use Rattle.batch.proofs.walk.Tie as tie
 
 abbrev Inv-loop : tie.InvT-loop
-Inv-loop queries catalogue n out₀ replies₀ marks j₀ out replies j = Holding queries catalogue j out replies × (j ≤ n)
+Inv-loop queries catalogue n who out₀ replies₀ marks j₀ out replies j = Holding who queries catalogue j out replies × (j ≤ n)
 
 abbrev μ-loop : tie.MeasureT-loop
-μ-loop queries catalogue n out₀ replies₀ marks j₀ out replies j = n - j
+μ-loop queries catalogue n who out₀ replies₀ marks j₀ out replies j = n - j
 
 mark-all-requires : tie.Need-mark-all-requires Inv-loop μ-loop
 mark-all-requires c κs = search needs
@@ -59,7 +59,7 @@ loop-again : tie.Need-loop-again Inv-loop μ-loop
 loop-again c =
     let s = c .before .before .before .before .before .before .before .before .before .before .before .before .before .before .before .before .before .args in
     let l = c .before .before .before .before .before .before .before .before .before .before .loop in
-    (holding-more (s .queries .now) (s .catalogue .now) _ _ _ _ (l .j) (l .inv .0) (c .before .before .before .before .pass .ensures), omega arith)
+    (holding-more (s .who) (s .queries .now) (s .catalogue .now) _ _ _ _ (l .j) (l .inv .0) (c .before .before .before .before .pass .ensures), omega arith)
 
 same-length : tie.Need-same-length Inv-loop μ-loop
 same-length c = c .before .loop .inv .0 .wide ∙ sym (c .before .before .before .before .before .before .before .before .pre .1 .wide)
@@ -72,7 +72,7 @@ returns c =
     let s = c .before .before .before .before .before .before .before .before .args in
     let l = c .before .loop in
     let e : l .j ≡ s .n = omega (arith, l .inv .1) in
-    subst (λ (k : ℕ). Holding (s .queries .now) (s .catalogue .now) k (l .out) (l .replies)) e (l .inv .0)
+    subst (λ (k : ℕ). Holding (s .who) (s .queries .now) (s .catalogue .now) k (l .out) (l .replies)) e (l .inv .0)
 
 pub walk-spec : {M : Type 1} → statement M
 walk-spec =
