@@ -51,7 +51,7 @@
  * What the caller must grant. Each pointer is valid for its length; with length 0 it may be NULL or any address. The replies of a batch are
  * aligned as a uint64_t, as an array of them is, also where there are none; bytes need no alignment.
  * A written buffer overlaps no other buffer of the same call. Nothing else: any bytes, any lengths.
- * There is no allocation, no global state and no I/O, so calls from several threads need no lock. A call uses at most 31 KB of stack.
+ * There is no allocation, no global state and no I/O, so calls from several threads need no lock. A call uses at most 35 KB of stack.
  */
 #ifndef DIVERTHRONE_H
 #define DIVERTHRONE_H

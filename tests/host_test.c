@@ -2343,7 +2343,7 @@ static void nearly_found(void) {
     batch.catalogue = shelf, batch.catalogue_len = sizeof shelf;
 }
 
-/* One term t modulo 4,095 at place t, for each t: queries that a table of few places takes for one another are all found. */
+/* One term t modulo 4,095 at place t, for each t: each is found at its own. */
 static void many_first_terms(void) {
     enum { TERMS = 4095 };
     static uint8_t all[TERMS * RECORD];
@@ -2355,12 +2355,33 @@ static void many_first_terms(void) {
     for (unsigned from = 0; from < TERMS; from += BATCH * every) {
         lend_batch(BATCH, 0x5A);
         for (unsigned i = 0; i < BATCH; i++) {
-            unsigned t = (from + 1021 * i) % TERMS;
+            unsigned t = (from + 256 * i) % TERMS;
             memcpy(query_at(i), all + t * RECORD, QUERY);
             memcpy(due_record(i), all + t * RECORD, RECORD);
             batch.due_replies[GUARD + i] = 256 * (1 + t);
         }
         batch_replies(1, counted(BATCH, 0, 0), "each term at its place");
+    }
+    batch.catalogue = shelf, batch.catalogue_len = sizeof shelf;
+}
+
+/* Terms x + 48 i, i modulo 4,095: as numbers to the base 65,536 they are the same modulo 4,099, which the walk divides by. All are found, by
+ * a = 1 and b = S; a batch of every other one meets the records between them too. */
+static void same_slot(unsigned x) {
+    uint8_t all[2 * BATCH * RECORD];
+    for (unsigned i = 0; i < 2 * BATCH; i++) {
+        const struct entry e = {4095, 2, {x + 48 * i, i}, 2, {1}, {x + 48 * i, i}, 1 + i};
+        write_entry(all + i * RECORD, &e);
+    }
+    batch.catalogue = all, batch.catalogue_len = sizeof all;
+    for (unsigned step = 1; step < 3; step++) {
+        lend_batch(BATCH, 0x5A);
+        for (unsigned i = 0; i < BATCH; i++) {
+            memcpy(query_at(i), all + step * i * RECORD, QUERY);
+            memcpy(due_record(i), all + step * i * RECORD, RECORD);
+            batch.due_replies[GUARD + i] = 256 * (1 + step * i);
+        }
+        batch_replies(1, counted(BATCH, 0, 0), "one slot for all");
     }
     batch.catalogue = shelf, batch.catalogue_len = sizeof shelf;
 }
@@ -2699,6 +2720,7 @@ static void of_batches(void) {
     malformed_in_batches();
     nearly_found();
     many_first_terms();
+    for (unsigned x = 0; x < 8; x++) same_slot(x);
     batches_in_many_records();
     batch_lengths();
     batch_order();

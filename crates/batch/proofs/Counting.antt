@@ -16,7 +16,7 @@ use Rattle.catalogue.specs.declared.LookedUp.the-variants as S
 use Rattle.codes.specs.Codes.{codeOf}
 use Rattle.codes.proofs.Laws.{code-refused}
 use Rattle.batch.specs.Rules.{queryAt, queriesIn, aloneOf, replyCode, isFound, isMade, isRefused, countKind}
-use Rattle.batch.specs.Walk.{kindOf, markOf, ofKind, Answered}
+use Rattle.batch.specs.Inner.{kindOf, markOf, ofKind, Answered}
 
 -- ---- the kinds of replies
 

@@ -28,7 +28,8 @@ use Rattle.catalogue.proofs.Visitors.{body-seen}
 use Rattle.codes.specs.Codes.{codeOf}
 use Rattle.codes.proofs.Laws.{code-refused}
 use Rattle.batch.specs.Rules.{zeroRecord, aloneOf, partOf, replyCode}
-use Rattle.batch.specs.Walk.{heldOf, heldPart, checkCode, takes, offeredPart, offeredCode, testedPart, testedCode, settledPart, settledCode}
+use Rattle.batch.specs.Walk.{heldOf, heldPart}
+use Rattle.batch.specs.Inner.{checkCode, takes, offeredPart, offeredCode, testedPart, testedCode, settledPart, settledCode}
 use Rattle.batch.proofs.Parts.{zero-long}
 
 -- ---- the first match among j records, and among one more

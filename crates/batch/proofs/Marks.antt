@@ -15,7 +15,7 @@ use Rattle.catalogue.specs.Word.{wordOf}
 use Rattle.catalogue.specs.Rules.{recordBytes, recordAt, isOf}
 use Rattle.catalogue.proofs.Laws.{word-tells}
 use Rattle.batch.specs.Rules.{queryAt, queriesIn}
-use Rattle.batch.specs.Walk.{slots, slotOf, Marked, offeredPart, offeredCode, Offered}
+use Rattle.batch.specs.Inner.{slots, slotOf, Marked, offeredPart, offeredCode, Offered}
 use Rattle.batch.proofs.Parts.{cut-query}
 use Rattle.batch.proofs.Holding.{kept, not-its}
 

@@ -16,7 +16,8 @@ use Rattle.sequence.specs.Rules.{checkOf}
 use Rattle.catalogue.specs.Rules.{recordBytes, recordAt}
 use Rattle.catalogue.proofs.Laws.{cut-record}
 use Rattle.batch.specs.Rules.{queryAt, queriesIn}
-use Rattle.batch.specs.Walk.{Standing, offeredPart, offeredCode, settledPart, settledCode}
+use Rattle.batch.specs.Walk.{Standing}
+use Rattle.batch.specs.Inner.{offeredPart, offeredCode, settledPart, settledCode}
 use Rattle.batch.proofs.Parts.{put-here, put-before, put-after, put-long, cut-query}
 
 pub record Turn (part : ℕ → List ℕ) (reply : ℕ → ℕ) (n : ℕ) (out₀ replies₀ : List ℕ) (i : ℕ) (out replies : List ℕ) : Type 0 where

@@ -26,7 +26,8 @@ use Rattle.codes.specs.Codes.{codeOf, countsCodeOf}
 use Rattle.codes.proofs.Laws.{counts-refused}
 use Rattle.batch.specs.declared.Batch.{Batch}
 use Rattle.batch.specs.Rules.{maxQueries, queryAt, queriesIn, aloneOf, partOf, replyCode, isFound, isMade, isRefused, countKind, lengthsFit, refusedBy, refusedWhole, replyBy, lookUpBatchOf, answerBy, batchAnswer, lookUpBatchAnswer, endToEnd, partsIn, repliesIn}
-use Rattle.batch.specs.Walk.{heldOf, heldPart, checkCode, offeredPart, offeredCode, Holding, Offered, Answered, settledPart, settledCode, Settled, ofKind}
+use Rattle.batch.specs.Walk.{heldOf, heldPart, Holding}
+use Rattle.batch.specs.Inner.{checkCode, offeredPart, offeredCode, Offered, Answered, settledPart, settledCode, Settled, ofKind}
 use Rattle.batch.proofs.Parts.{zero-part, is-end-to-end}
 use Rattle.batch.proofs.Holding.{held-start, held-next, held-end}
 use Rattle.batch.proofs.Counting.{found-counted, made-counted, refused-counted, all-counted}

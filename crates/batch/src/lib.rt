@@ -16,11 +16,12 @@ ghost use Rattle.sequence.specs.Limits.{queryBytes};
 ghost use Rattle.sequence.specs.Rules.{IsSound, sequenceOf, checkOf};
 ghost use Rattle.catalogue.specs.Rules.{recordBytes, records};
 ghost use Rattle.batch.specs.Rules.{queryAt, queriesIn, zeroRecord, lengthsFit, refusedBy, refusedWhole, lookUpBatchOf, batchAnswer, lookUpBatchAnswer, partsIn, repliesIn};
-ghost use Rattle.batch.specs.Walk.{Holding, Answered, checkCode, offeredPart, offeredCode, Offered, slots, slotOf, Marked, testedPart, testedCode, settledPart, settledCode, Settled, kindOf, markOf, ofKind};
+ghost use Rattle.batch.specs.Walk.{Holding};
+ghost use Rattle.batch.specs.Inner.{Answered, checkCode, offeredPart, offeredCode, Offered, slots, slotOf, Marked, testedPart, testedCode, settledPart, settledCode, Settled, kindOf, markOf, ofKind};
 
 pub const MAX_QUERIES: usize = 16;
 
-const SLOTS: usize = 1021;
+const SLOTS: usize = 4099;
 
 // How many queries were found, made and refused, 0 each where the whole call is refused.
 pub struct Batch {
@@ -111,7 +112,7 @@ fn slot(entry: &[u8]) -> usize
     requires { ⌜ 12 ≤ length (now entry) ⌝ }
     ensures { λ r. ⌜ (r ≡ slotOf (now (entry .entry))) × (r < slots) ⌝ }
 {
-    (catalogue::word(entry) % 1021) as usize
+    (catalogue::word(entry) % 4099) as usize
 }
 
 // Marks the slot of every query.
@@ -128,8 +129,8 @@ fn mark_all(queries: &[u8], marks: &mut [u8; SLOTS])
     }
 }
 
-// Passes record j: it is offered only if its slot is marked. Of nearly all other records no more than the first four terms are read, and one
-// test does for all queries.
+// Passes record j: it is offered only if its slot is marked. So one test does for all queries, and of nearly all records that none of them takes
+// no more than the first four terms are read.
 fn pass(
     queries: &[u8],
     marks: &[u8; SLOTS],

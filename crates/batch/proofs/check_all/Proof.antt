@@ -5,7 +5,7 @@ use Prim.Native.Nat.{_-_}
 use native.Mathlib.Omega.{arith}
 use Rattle.lists.proofs.Table.{Filled, filled-none, filled-more, filled-all}
 use Rattle.batch.specs.Rules.{queryAt, queriesIn}
-use Rattle.batch.specs.Walk.{checkCode}
+use Rattle.batch.specs.Inner.{checkCode}
 use Rattle.batch.proofs.Parts.{cut-query}
 use borrow.Author.Needs.{needs}
 use Rattle.batch.proofs.check_all.Statement.{statement}

@@ -4,7 +4,7 @@ use mathlib.Core.Path.{_≡_, subst}
 use Prim.Native.Nat.{ℕ, _-_, _≤_}
 use native.Mathlib.Omega.{arith}
 use Rattle.batch.specs.Rules.{queriesIn}
-use Rattle.batch.specs.Walk.{Marked}
+use Rattle.batch.specs.Inner.{Marked}
 use Rattle.batch.proofs.Marks.{marked-none, marked-more}
 use borrow.Author.Needs.{needs}
 use Rattle.batch.proofs.mark_all.Statement.{statement}
