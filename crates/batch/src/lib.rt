@@ -35,10 +35,10 @@ pub struct Batch {
 fn clear(out: &mut [u8])
     ensures { λ _. ⌜ now (out .exit) ≡ replicate (length (now (out .entry))) 0 ⌝ }
 {
-    let mut i: usize = 0;
-    while i < out.len() {
-        out[i] = 0;
-        i += 1;
+    let mut k: usize = 0;
+    while k < out.len() {
+        out[k] = 0;
+        k += 1;
     }
 }
 
@@ -90,20 +90,20 @@ fn offer_all(queries: &[u8], entry: &[u8], j: usize, who: u64, out: &mut [u8], r
         × (length (now out) ≡ queriesIn (now queries) * recordBytes) × (length (now replies) ≡ queriesIn (now queries)) ⌝ }
     ensures { λ _. ⌜ Offered who (now (queries .entry)) (now (entry .entry)) j (now (out .entry)) (now (replies .entry)) (now (out .exit)) (now (replies .exit)) ⌝ }
 {
-    let mut i: usize = 0;
-    while i < replies.len() {
-        let at = i * QUERY_BYTES;
-        let to = i * RECORD_BYTES;
+    let mut q: usize = 0;
+    while q < replies.len() {
+        let at = q * QUERY_BYTES;
+        let to = q * RECORD_BYTES;
         let r = offer(
             &queries[at..at + QUERY_BYTES],
             entry,
             j,
             who,
             &mut out[to..to + RECORD_BYTES],
-            replies[i],
+            replies[q],
         );
-        replies[i] = r;
-        i += 1;
+        replies[q] = r;
+        q += 1;
     }
 }
 
