@@ -2,9 +2,8 @@
 -- Assumes nothing.
 use mathlib.Core.Path.{_≡_, refl, ap, _∙_}
 use mathlib.Core.List.{List}
-use Prim.Native.Nat.{ℕ, zero, suc, _+_, _%_, _≤_}
+use Prim.Native.Nat.{ℕ, zero, suc, _+_, _%_}
 use native.Mathlib.Omega.{arith}
-use lib.ListN.{length}
 use borrow.Author.Tests.{eq-eqb, ne-eqb}
 use Rattle.lists.specs.Sum.{sumTo}
 use Rattle.lists.specs.Table.{at}
@@ -16,7 +15,7 @@ use Rattle.catalogue.specs.declared.LookedUp.the-variants as S
 use Rattle.codes.specs.Codes.{codeOf}
 use Rattle.codes.proofs.Laws.{code-refused}
 use Rattle.batch.specs.Rules.{queryAt, queriesIn, aloneOf, replyCode, isFound, isMade, isRefused, countKind}
-use Rattle.batch.specs.Inner.{kindOf, markOf, ofKind, Answered}
+use Rattle.batch.specs.Inner.{kindOf, oneOfKind, ofKind, Answered}
 
 -- ---- the kinds of replies
 
@@ -30,39 +29,39 @@ kind-refused r =
       ne-eqb (codeOf (refusal r) % 256) 0 (code-refused r),
     )
 
-mark-found : (t : LookedUp) → markOf 1 (replyCode t) ≡ isFound t
-mark-found S.Made = refl
-mark-found (S.Found i) = rw (kind-found i)
-mark-found (S.Refused r) = rw (kind-refused r)
+one-found : (t : LookedUp) → oneOfKind 1 (replyCode t) ≡ isFound t
+one-found S.Made = refl
+one-found (S.Found i) = rw (kind-found i)
+one-found (S.Refused r) = rw (kind-refused r)
 
-mark-made : (t : LookedUp) → markOf 0 (replyCode t) ≡ isMade t
-mark-made S.Made = refl
-mark-made (S.Found i) = rw (kind-found i)
-mark-made (S.Refused r) = rw (kind-refused r)
+one-made : (t : LookedUp) → oneOfKind 0 (replyCode t) ≡ isMade t
+one-made S.Made = refl
+one-made (S.Found i) = rw (kind-found i)
+one-made (S.Refused r) = rw (kind-refused r)
 
-mark-refused : (t : LookedUp) → markOf 2 (replyCode t) ≡ isRefused t
-mark-refused S.Made = refl
-mark-refused (S.Found i) = rw (kind-found i)
-mark-refused (S.Refused r) = rw (kind-refused r)
+one-refused : (t : LookedUp) → oneOfKind 2 (replyCode t) ≡ isRefused t
+one-refused S.Made = refl
+one-refused (S.Found i) = rw (kind-found i)
+one-refused (S.Refused r) = rw (kind-refused r)
 
 -- ---- what the code counts
 
 module _ (who : ℕ) (queries catalogue out replies : List ℕ) (a : Answered who queries catalogue out replies) where
-  counted : (k : ℕ) (kind : LookedUp → ℕ) → ((t : LookedUp) → markOf k (replyCode t) ≡ kind t) → ofKind k replies ≡ countKind kind queries catalogue
+  counted : (k : ℕ) (kind : LookedUp → ℕ) → ((t : LookedUp) → oneOfKind k (replyCode t) ≡ kind t) → ofKind k replies ≡ countKind kind queries catalogue
   unfolding countKind
   counted k kind same =
-      ap (λ (n : ℕ). sumTo n (λ i. markOf k (at replies i))) (a .many)
-      ∙ sumTo-eq (queriesIn queries) (λ i. markOf k (at replies i)) (λ i. kind (aloneOf (queryAt queries i) catalogue))
-      (λ i h. ap (markOf k) (a .told i h) ∙ same (aloneOf (queryAt queries i) catalogue))
+      ap (λ (n : ℕ). sumTo n (λ i. oneOfKind k (at replies i))) (a .many)
+      ∙ sumTo-eq (queriesIn queries) (λ i. oneOfKind k (at replies i)) (λ i. kind (aloneOf (queryAt queries i) catalogue))
+      (λ i h. ap (oneOfKind k) (a .told i h) ∙ same (aloneOf (queryAt queries i) catalogue))
 
   pub found-counted : ofKind 1 replies ≡ countKind isFound queries catalogue
-  found-counted = counted 1 isFound mark-found
+  found-counted = counted 1 isFound one-found
 
   pub made-counted : ofKind 0 replies ≡ countKind isMade queries catalogue
-  made-counted = counted 0 isMade mark-made
+  made-counted = counted 0 isMade one-made
 
   pub refused-counted : ofKind 2 replies ≡ countKind isRefused queries catalogue
-  refused-counted = counted 2 isRefused mark-refused
+  refused-counted = counted 2 isRefused one-refused
 
 -- ---- each query is counted once
 

@@ -4,7 +4,7 @@ use mathlib.Core.Path.{_≡_, refl, sym, ap, _∙_, subst}
 use mathlib.Core.Bool.{Bool, true, false}
 use mathlib.Core.Logic.{_⊎_, inl, inr}
 use mathlib.Core.List.{List}
-use Prim.Native.Nat.{ℕ, suc, _+_, _*_, _%_, _≤_, _<_}
+use Prim.Native.Nat.{ℕ, suc, _%_, _≤_, _<_}
 use native.Mathlib.Omega.{arith}
 use lib.ListN.{length}
 use borrow.Author.Count.{below-more}
@@ -29,7 +29,7 @@ use Rattle.codes.specs.Codes.{codeOf}
 use Rattle.codes.proofs.Laws.{code-refused}
 use Rattle.batch.specs.Rules.{zeroRecord, aloneOf, partOf, replyCode}
 use Rattle.batch.specs.Walk.{heldOf, heldPart}
-use Rattle.batch.specs.Inner.{checkCode, takes, offeredPart, offeredCode, testedPart, testedCode, settledPart, settledCode}
+use Rattle.batch.specs.Inner.{checkCode, takes, offeredPart, offeredCode, settledPart, settledCode}
 use Rattle.batch.proofs.Parts.{zero-long}
 
 -- ---- the first match among j records, and among one more
@@ -68,6 +68,14 @@ held-found query catalogue j e h = rw (e, lt-ltb _ _ h)
 held-made : (query catalogue : List ℕ) (j : ℕ) → checkOf query ≡ O.Done → j ≤ firstMatch query catalogue j → heldOf query catalogue j ≡ S.Made
 unfolding heldOf
 held-made query catalogue j e h = rw (e, le-ltb _ _ h)
+
+-- one that passed its checks is held as no refusal
+pub held-accepted : (query catalogue : List ℕ) (j : ℕ) {r : Refusal} → checkOf query ≡ O.Done → heldOf query catalogue j ≡ S.Refused r → ⊥
+held-accepted query catalogue j {r} p e = go (lt-or-le (firstMatch query catalogue j) j)
+  where
+    go : (firstMatch query catalogue j < j) ⊎ (j ≤ firstMatch query catalogue j) → ⊥
+    go (inl h) = let q : S.Found (firstMatch query catalogue j) ≡ S.Refused r = sym (held-found query catalogue j p h) ∙ e in let y : _≡_ {A = ℕ} 0 1 = cc in absurd (omega arith)
+    go (inr h) = let q : S.Made ≡ S.Refused r = sym (held-made query catalogue j p h) ∙ e in let y : _≡_ {A = ℕ} 0 1 = cc in absurd (omega arith)
 
 held : (query catalogue : List ℕ) (j : ℕ) → Held query catalogue j
 held query catalogue j = go (checkOf query) refl (lt-or-le (firstMatch query catalogue j) j)

@@ -99,6 +99,10 @@ pub zero-long : length zeroRecord ≡ recordBytes
 unfolding zeroRecord
 zero-long = length-replicate {A = ℕ} recordBytes 0
 
+pub zero-is : zeroRecord ≡ replicate recordBytes 0
+unfolding zeroRecord
+zero-is = refl
+
 pub cleared : (part part' : List ℕ) → length part ≡ recordBytes → part' ≡ replicate (length part) 0 → part' ≡ zeroRecord
 unfolding zeroRecord
 cleared part part' h e = e ∙ ap (λ (n : ℕ). replicate n 0) h

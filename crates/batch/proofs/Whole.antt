@@ -9,12 +9,11 @@ use native.Mathlib.Omega.{arith}
 use lib.Dec.{ltb, eqb}
 use lib.ListN.{length, take, drop, replicate, length-replicate}
 use borrow.Author.Tests.{eqb-true, ltb-false}
-use Rattle.lists.specs.Choice.{pick, both}
+use Rattle.lists.specs.Choice.{pick}
 use Rattle.lists.specs.Table.{at, tabulate}
 use Rattle.lists.proofs.Search.{both-left, both-right}
 use Rattle.lists.proofs.Table.{at-tabulate, is-tabulate, length-tabulate}
 use Rattle.sequence.specs.declared.Refusal.{Refusal}
-use Rattle.sequence.specs.declared.Refusal.the-variants as R
 use Rattle.sequence.specs.declared.Outcome.{Outcome}
 use Rattle.sequence.specs.declared.Outcome.the-variants as O
 use Rattle.sequence.specs.Limits.{queryBytes}
@@ -25,7 +24,7 @@ use Rattle.catalogue.proofs.Laws.{cut-record}
 use Rattle.codes.specs.Codes.{codeOf, countsCodeOf}
 use Rattle.codes.proofs.Laws.{counts-refused}
 use Rattle.batch.specs.declared.Batch.{Batch}
-use Rattle.batch.specs.Rules.{maxQueries, queryAt, queriesIn, aloneOf, partOf, replyCode, isFound, isMade, isRefused, countKind, lengthsFit, refusedBy, refusedWhole, replyBy, lookUpBatchOf, answerBy, batchAnswer, lookUpBatchAnswer, endToEnd, partsIn, repliesIn}
+use Rattle.batch.specs.Rules.{maxQueries, queryAt, queriesIn, aloneOf, partOf, replyCode, isFound, isMade, isRefused, countKind, lengthsFit, refusedBy, refusedWhole, replyBy, lookUpBatchOf, answerBy, batchAnswer, lookUpBatchAnswer, partsIn, repliesIn}
 use Rattle.batch.specs.Walk.{heldOf, heldPart, Holding}
 use Rattle.batch.specs.Inner.{checkCode, offeredPart, offeredCode, Offered, Answered, settledPart, settledCode, Settled, ofKind}
 use Rattle.batch.proofs.Parts.{zero-part, is-end-to-end}
@@ -215,7 +214,7 @@ counts-small queries catalogue out replies {b} same = go (refusedWhole (length q
 -- ---- the refusals of the whole call
 
 -- none of them carries a place
-pub refused-plain : (queries catalogue out replies : List ℕ) {r : Refusal} → lookUpBatchOf queries catalogue out replies .outcome ≡ O.Refused r → refusal r .values ≡ []
+refused-plain : (queries catalogue out replies : List ℕ) {r : Refusal} → lookUpBatchOf queries catalogue out replies .outcome ≡ O.Refused r → refusal r .values ≡ []
 unfolding lookUpBatchOf refusedWhole
 refused-plain queries catalogue out replies {r} h =
     go (not (lengthsFit (length queries) (length out) (length replies))) (ltb maxQueries (queriesIn queries)) (not (eqb (length catalogue % recordBytes) 0)) h

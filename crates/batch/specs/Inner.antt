@@ -94,8 +94,8 @@ Settled queries out replies =
 abbrev pub kindOf : ℕ → ℕ
 kindOf reply = pick (eqb reply 0) 0 (pick (eqb (reply % 256) 0) 1 2)
 
-abbrev pub markOf : ℕ → ℕ → ℕ
-markOf k reply = pick (eqb (kindOf reply) k) 1 0
+abbrev pub oneOfKind : ℕ → ℕ → ℕ
+oneOfKind k reply = pick (eqb (kindOf reply) k) 1 0
 
 abbrev pub ofKind : ℕ → List ℕ → ℕ
-ofKind k replies = sumTo (length replies) (λ i. markOf k (at replies i))
+ofKind k replies = sumTo (length replies) (λ i. oneOfKind k (at replies i))

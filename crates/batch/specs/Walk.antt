@@ -13,13 +13,10 @@ use Rattle.catalogue.specs.declared.LookedUp.the-variants as S
 use Rattle.catalogue.specs.Rules.{recordBytes, recordAt, firstMatch, orElse, seenBy}
 use Rattle.batch.specs.Rules.{queryAt, queriesIn, zeroRecord, replyCode}
 
--- a match among the first j records is held as found, and none as a record that is to be made
-abbrev pub metOf : ℕ → ℕ → LookedUp
-metOf j i = pick (ltb i j) (S.Found i) S.Made
-
--- what is held for a query: its refusal, or the first match among the first j records, or none
+-- What is held for a query after the first j records: its refusal, or the first match among them, or none. A match is held as found, and none as a record that
+-- is to be made.
 unfoldable pub heldOf : List ℕ → List ℕ → ℕ → LookedUp
-heldOf query catalogue j = orElse (checkOf query) (metOf j (firstMatch query catalogue j))
+heldOf query catalogue j = let i = firstMatch query catalogue j in orElse (checkOf query) (pick (ltb i j) (S.Found i) S.Made)
 
 -- and in its part: the record that it met, as who asks sees it, or zeros
 abbrev pub heldPart : (who : ℕ) → LookedUp → (catalogue : List ℕ) → List ℕ

@@ -8,18 +8,17 @@ use sequence::QUERY_BYTES;
 use sequence::Refusal;
 use sequence::Sequence;
 ghost use mathlib.Core.Path.{_≡_};
-ghost use mathlib.Core.Bool.{not};
 ghost use Prim.Native.Nat.{_+_, _*_, _%_, _≤_, _<_};
 ghost use lib.ListN.{length, replicate};
 ghost use Rattle.lists.specs.Table.{tabulate};
 ghost use Rattle.sequence.specs.Limits.{queryBytes};
 ghost use Rattle.sequence.specs.Rules.{IsSound, sequenceOf, checkOf};
 ghost use Rattle.catalogue.specs.Rules.{recordBytes, records};
-ghost use Rattle.batch.specs.Rules.{queryAt, queriesIn, zeroRecord, lengthsFit, refusedBy, refusedWhole, lookUpBatchOf, batchAnswer, lookUpBatchAnswer, partsIn, repliesIn};
+ghost use Rattle.batch.specs.Rules.{queryAt, queriesIn, lengthsFit, refusedBy, refusedWhole, lookUpBatchOf, batchAnswer, lookUpBatchAnswer, partsIn, repliesIn};
 ghost use Rattle.batch.specs.Walk.{Holding};
-ghost use Rattle.batch.specs.Inner.{Answered, checkCode, offeredPart, offeredCode, Offered, slots, slotOf, Marked, testedPart, testedCode, settledPart, settledCode, Settled, kindOf, markOf, ofKind};
+ghost use Rattle.batch.specs.Inner.{Answered, checkCode, offeredPart, offeredCode, Offered, slots, slotOf, Marked, testedPart, testedCode, settledPart, settledCode, Settled, kindOf, oneOfKind, ofKind};
 
-pub const MAX_QUERIES: usize = 16;
+const MAX_QUERIES: usize = 16;
 
 const SLOTS: usize = 4099;
 
@@ -151,8 +150,8 @@ fn pass(
     offer_all(queries, entry, j, who, out, replies);
 }
 
-// Walks along the first n records, each of which is read once: only here is the catalogue looked at. What is held after n records, for every n, is
-// the promise.
+// Walks along the first n records, each of which is passed once, in their order: only here is the catalogue looked at. What is held after n records,
+// for every n, is the promise.
 fn walk(queries: &[u8], catalogue: &[u8], n: usize, who: u64, out: &mut [u8], replies: &mut [u64])
     requires { ⌜ n ≤ records (now catalogue) ⌝ }
     requires { ⌜ Holding who (now queries) (now catalogue) 0 (now out) (now replies) ⌝ }
@@ -229,15 +228,31 @@ fn settle_all(queries: &[u8], out: &mut [u8], replies: &mut [u64])
     }
 }
 
-// Answers every query: before the walk, the walk along all records, after it.
+// Before the walk every query has zeros and its refusal, or looks; then the walk along the first n records.
+pub fn walk_first(
+    queries: &[u8],
+    catalogue: &[u8],
+    n: usize,
+    who: u64,
+    out: &mut [u8],
+    replies: &mut [u64],
+)
+    requires { ⌜ (length (now out) ≡ queriesIn (now queries) * recordBytes) × (length (now replies) ≡ queriesIn (now queries))
+        × (n ≤ records (now catalogue)) ⌝ }
+    ensures { λ _. ⌜ Holding who (now (queries .entry)) (now (catalogue .entry)) n (now (out .exit)) (now (replies .exit)) ⌝ }
+{
+    clear(out);
+    check_all(queries, replies);
+    walk(queries, catalogue, n, who, out, replies);
+}
+
+// Answers every query: the walk along all records, and what comes after it.
 fn answer_all(queries: &[u8], catalogue: &[u8], who: u64, out: &mut [u8], replies: &mut [u64])
     requires { ⌜ (length (now out) ≡ queriesIn (now queries) * recordBytes) × (length (now replies) ≡ queriesIn (now queries))
         × (length (now catalogue) % recordBytes ≡ 0) ⌝ }
     ensures { λ _. ⌜ Answered who (now (queries .entry)) (now (catalogue .entry)) (now (out .exit)) (now (replies .exit)) ⌝ }
 {
-    clear(out);
-    check_all(queries, replies);
-    walk(
+    walk_first(
         queries,
         catalogue,
         catalogue.len() / RECORD_BYTES,
@@ -261,8 +276,9 @@ fn kind(reply: u64) -> u32
     2
 }
 
-fn mark(reply: u64, k: u32) -> usize
-    ensures { λ r. ⌜ (r ≡ markOf k reply) × (r ≤ 1) ⌝ }
+// 1 for a reply of kind k, else 0.
+fn one_of_kind(reply: u64, k: u32) -> usize
+    ensures { λ r. ⌜ (r ≡ oneOfKind k reply) × (r ≤ 1) ⌝ }
 {
     if kind(reply) == k {
         return 1;
@@ -277,7 +293,7 @@ fn count(replies: &[u64], k: u32) -> usize
     let mut sum: usize = 0;
     let mut i: usize = 0;
     while i < replies.len() {
-        sum += mark(replies[i], k);
+        sum += one_of_kind(replies[i], k);
         i += 1;
     }
     sum

@@ -88,7 +88,7 @@ number-small R.Census = (omega arith, omega arith)
 number-small R.Batch = (omega arith, omega arith)
 
 -- so a refusal is told from an answer that is not refused by the lowest byte
-pub code-number : (r : Refusal) → codeOf (refusal r) % 256 ≡ refusal r .number
+code-number : (r : Refusal) → codeOf (refusal r) % 256 ≡ refusal r .number
 code-number r = omega (arith, number-small r .1)
 
 pub code-refused : (r : Refusal) → codeOf (refusal r) % 256 ≡ 0 → ⊥

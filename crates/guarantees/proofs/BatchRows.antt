@@ -31,7 +31,7 @@ served-rows =
       mixed-replies = refl;
       mixed-editor = refl;
       mixed-visitor = refl;
-      mixed-numbers = refl;
+      mixed-number = refl;
       failed = refl;
       failed-replies = refl;
       failed-records = refl;
@@ -55,7 +55,7 @@ size-rows =
       empty = refl;
       empty-code = refl;
       sixteen-made = refl;
-      sixteen-found = refl;
+      twice-found = refl;
       sixteen-code = refl;
     }
 

@@ -4,36 +4,33 @@ use mathlib.Core.Path.{_≡_, refl, sym, ap, _∙_, subst}
 use mathlib.Core.Bool.{Bool, true, false, not}
 use mathlib.Core.Logic.{_⊎_, inl, inr}
 use mathlib.Core.List.{List}
-use Prim.Native.Nat.{ℕ, _*_, _/_, _%_, _≤_, _<_}
+use Prim.Native.Nat.{ℕ, _+_, _*_, _%_, _<_}
 use native.Mathlib.Omega.{arith}
 use lib.Dec.{ltb, eqb}
 use lib.ListN.{length}
 use borrow.Author.Tests.{lt-ltb, le-ltb, eq-eqb, ne-eqb, ltb-true, ltb-false, eqb-true}
-use Rattle.lists.specs.Choice.{both}
-use Rattle.lists.proofs.Search.{both-left, both-right, both-true, false-true}
-use Rattle.lists.specs.Table.{tabulate}
+use Rattle.lists.proofs.Search.{both-true, false-true}
+use Rattle.lists.specs.Table.{at, tabulate}
 use Rattle.cells.specs.Cell.{cellAt}
 use Rattle.sequence.specs.declared.Refusal.{Refusal}
-use Rattle.sequence.specs.declared.Refusal.the-variants as R
 use Rattle.sequence.specs.declared.Outcome.{Outcome}
 use Rattle.sequence.specs.declared.Outcome.the-variants.{Done, Refused}
-use Rattle.sequence.specs.Limits.{queryBytes}
 use Rattle.sequence.specs.Rules.{checkOf}
-use Rattle.sequence.specs.Report.{filled}
 use Rattle.catalogue.specs.declared.LookedUp.{LookedUp}
 use Rattle.catalogue.specs.declared.LookedUp.the-variants as S
-use Rattle.catalogue.specs.Rules.{recordBytes, body, recordOf, synthesizeOf, recordAt, lookUpOf}
+use Rattle.catalogue.specs.Rules.{recordBytes, body, recordAt, lookUpOf}
 use Rattle.codes.specs.Codes.{countsCodeOf}
 use Rattle.batch.specs.declared.Batch.{Batch}
-use Rattle.batch.specs.Rules.{maxQueries, queryAt, queriesIn, aloneOf, partOf, replyCode, isFound, isMade, isRefused, countKind, lengthsFit, refusedBy, refusedWhole, lookUpBatchOf, endToEnd, batchedIn}
-use Rattle.batch.proofs.Whole.{fits-out, fits-replies, fits-whole, answer-told, counts-small}
-use Rattle.batch.proofs.Holding.{match-is, is-match, none-is, is-none, held-refused}
+use Rattle.batch.specs.Rules.{maxQueries, queryAt, queriesIn, aloneOf, partOf, replyCode, isFound, isMade, isRefused, lengthsFit, refusedBy, refusedWhole, lookUpBatchOf, endToEnd, batchedIn}
+use Rattle.batch.specs.Walk.{heldOf, heldPart, Holding}
+use Rattle.batch.proofs.Whole.{fits-out, fits-replies, fits-whole, reply-by, answer-told, counts-small}
+use Rattle.batch.proofs.Holding.{match-is, is-match, none-is, is-none, held-refused, held-accepted}
+use Rattle.batch.proofs.Parts.{zero-is}
 use Rattle.batch.proofs.Counting.{all-counted}
 use Rattle.batch.proofs.Laws.{outcome-is, alone-lent, alone-code, part-served, part-zeros, query-size, part-at, parts-long, reply-at, replies-long, counts-are, counts-code, kind-counted, batch-same, answers-same, replies-same, records-same}
-use Rattle.guarantees.specs.Calls.{Call, taken}
-use Rattle.guarantees.specs.Claims.{MadeServedReported, Same, MadeCatalogue, AgreesWith, termsOf}
+use Rattle.guarantees.specs.Claims.{MadeServedReported, Same, MadeCatalogue, AgreesWith}
 use Rattle.guarantees.specs.Visitors.{SameButNumbers, servedFrom}
-use Rattle.guarantees.specs.Batches.{recordsAfter, repliesAfter, Fitting, BatchReason, EveryOutcome, Alone, EveryQuery, AfterRecords, Counted, BatchAlike, BatchSame, Batches, TheBatches}
+use Rattle.guarantees.specs.Batches.{recordsAfter, Fitting, BatchReason, EveryOutcome, EveryQuery, HeldFor, Walked, Counted, BatchAlike, BatchSame, TheBatches}
 use Rattle.guarantees.proofs.Records.{same}
 
 -- ---- when each refusal is given
@@ -84,6 +81,7 @@ module _ (queries catalogue out replies : List ℕ) where
         exactly = λ o h. outcome-is queries catalogue out replies ∙ exactly-of o h;
         by-number = answer-told queries catalogue out replies;
         records-kept = λ who r e. ap (λ (o : Outcome). batchedIn o (endToEnd (queriesIn queries) (λ i. partOf who (queryAt queries i) catalogue)) out) e;
+        none-counted = λ r e. reply-by queries catalogue out replies (Refused r) (sym (outcome-is queries catalogue out replies) ∙ e);
         replies-kept = λ r e. ap (λ (o : Outcome). batchedIn o (tabulate (queriesIn queries) (λ i. replyCode (aloneOf (queryAt queries i) catalogue))) replies) e;
       }
 
@@ -127,15 +125,40 @@ module _ (queries catalogue out replies : List ℕ) (done : lookUpBatchOf querie
 
 -- ---- the walk
 
-after-records : (query catalogue : List ℕ) (j : ℕ) → AfterRecords query catalogue j
-after-records query catalogue j =
-    record {
-      match-is = λ p. match-is query catalogue j p;
-      is-match = λ p. is-match query catalogue j p;
-      none-is = λ p. none-is query catalogue j p;
-      is-none = λ p. is-none query catalogue j p;
-      refused = λ r e. held-refused query catalogue j r e;
-    }
+module _ (who : ℕ) (query catalogue : List ℕ) (j : ℕ) (part : List ℕ) (reply : ℕ) (ep : part ≡ heldPart who (heldOf query catalogue j) catalogue)
+    (er : reply ≡ replyCode (heldOf query catalogue j)) where
+  code-by : {t : LookedUp} → heldOf query catalogue j ≡ t → reply ≡ replyCode t
+  code-by e = er ∙ ap replyCode e
+
+  part-by : {t : LookedUp} → heldOf query catalogue j ≡ t → part ≡ heldPart who t catalogue
+  part-by e = ep ∙ ap (λ (t : LookedUp). heldPart who t catalogue) e
+
+  -- what is held, by its number: of a query that passed its checks it is no refusal
+  told-by : checkOf query ≡ Done → (t : LookedUp) → heldOf query catalogue j ≡ t
+      → ((k : ℕ) → reply ≡ 256 * (1 + k) → heldOf query catalogue j ≡ S.Found k) × (reply ≡ 0 → heldOf query catalogue j ≡ S.Made)
+  told-by p (S.Found i) e = (
+    λ k h. e ∙ ap (λ (x : ℕ). S.Found x) (let z : i ≡ k = omega (arith, h, code-by e) in z),
+    λ h. absurd (let z : _≡_ {A = ℕ} 0 1 = omega (arith, h, code-by e) in omega (arith, z)),
+  )
+  told-by p S.Made e = (λ k h. absurd (let z : _≡_ {A = ℕ} 0 1 = omega (arith, h, code-by e) in omega (arith, z)), λ h. e)
+  told-by p (S.Refused r) e = absurd (held-accepted query catalogue j p e)
+
+  held-for : HeldFor who query catalogue j part reply
+  held-for =
+      record {
+        match-is = λ p k h.
+            let m = match-is query catalogue j p k (told-by p (heldOf query catalogue j) refl .0 k h) in
+            record { within = m .0; matches = m .1 .0; before = m .1 .1 };
+        is-match = λ p k m.
+            let e = is-match query catalogue j p k (m .within) (m .matches) (m .before) in
+            (code-by e ∙ omega arith, part-by e);
+        none-is = λ p h. none-is query catalogue j p (told-by p (heldOf query catalogue j) refl .1 h);
+        is-none = λ p h. let e = is-none query catalogue j p h in (code-by e, part-by e ∙ zero-is);
+        refused = λ r h. let e = held-refused query catalogue j r h in (code-by e, part-by e ∙ zero-is);
+      }
+
+pub walked : (who : ℕ) (queries catalogue : List ℕ) (j : ℕ) (held told : List ℕ) → Holding who queries catalogue j held told → Walked who queries catalogue j held told
+walked who queries catalogue j held told s i h = held-for who (queryAt queries i) catalogue j (recordAt held i) (at told i) (s .shown i h) (s .told i h)
 
 -- ---- what holds of looking up
 
@@ -193,7 +216,7 @@ batches queries catalogue out replies =
     record {
       outcomes = every-outcome queries catalogue out replies;
       queries-alone = λ who d. every-query queries catalogue out replies d who;
-      walked = λ i j. after-records (queryAt queries i) catalogue j;
+      walked = λ who j held told s. walked who queries catalogue j held told s;
       counted = λ d lent l. counted queries catalogue out replies d lent l;
       alike = λ c' s. batch-alike queries catalogue c' out replies s;
       same = λ who d m i h p lent l. batch-same-as queries catalogue out replies d m who i h p lent l;

@@ -7,14 +7,13 @@ use lib.ListN.{take, drop, replicate}
 use Rattle.cells.specs.Cell.{bytesOf}
 use Rattle.sequence.specs.Answers.{Answer, granted, refused}
 use Rattle.sequence.specs.Rules.{queryOf}
-use Rattle.catalogue.specs.declared.LookedUp.{LookedUp}
 use Rattle.catalogue.specs.declared.LookedUp.the-variants as S
-use Rattle.catalogue.specs.Rules.{recordBytes, body, recordOf, recordAt}
+use Rattle.catalogue.specs.Rules.{recordBytes, body, recordOf}
 use Rattle.codes.specs.Codes.{countsCodeOf}
 use Rattle.batch.specs.Rules.{queriesIn, lookUpBatchAnswer}
 use Rattle.batch.specs.Walk.{heldOf}
 use Rattle.guarantees.specs.Cases.{aOf, bOf}
-use Rattle.guarantees.specs.Numbers.{nine, four, two, numbered, wrongAt1And3, counted}
+use Rattle.guarantees.specs.Numbers.{nine, four, two, wrongAt1And3, counted}
 use Rattle.guarantees.specs.Batches.{recordsAfter, repliesAfter}
 
 -- queries end to end, and one of them n times
@@ -49,9 +48,12 @@ eleven = queryOf 11 (6 ∷ 3 ∷ 1 ∷ 5 ∷ 6 ∷ [])
 abbrev pub shorter : List ℕ
 shorter = queryOf 9 (6 ∷ 3 ∷ 1 ∷ 5 ∷ [])
 
--- found at 0, refused by 3 at 1, made, found at 1, found at 0 again
-abbrev pub five : List ℕ
-five = together (nine ∷ wrongAt1And3 ∷ none ∷ four ∷ nine ∷ [])
+-- found, refused by 3 at 1, made, found again; and a catalogue of one record, with accession number 65,280
+abbrev pub quartet : List ℕ
+quartet = together (four ∷ wrongAt1And3 ∷ none ∷ four ∷ [])
+
+abbrev pub single : List ℕ
+single = body (recordOf four) ++ (0 ∷ 255 ∷ [])
 
 -- a record of `nine` that does not pass the test, with accession number 7, before one that does, and one of `four`
 abbrev pub failing : List ℕ
@@ -67,13 +69,12 @@ wrong = together (queryOf 1 [] ∷ counted 2 129 [] ∷ queryOf 5 (5 ∷ []) ∷
 -- what is replied and written
 pub record ServedRows : Type 0 where
   -- a batch of each kind: the counts, their number for C, each reply, and every byte for an editor and for a visitor
-  pub mixed : batchTo five numbered ≡ granted (3 ∷ 1 ∷ 1 ∷ [])
-  pub mixed-code : countsCodeOf (batchTo five numbered) ≡ 256 * (3 + 256 * 1 + 65536 * 1)
-  pub mixed-replies : repliesTo five numbered ≡ 256 ∷ (3 + 256) ∷ 0 ∷ 512 ∷ 256 ∷ []
-  pub mixed-editor :
-      recordsTo 1 five numbered ≡ together (recordAt numbered 0 ∷ replicate 778 0 ∷ recordOf none ∷ recordAt numbered 1 ∷ recordAt numbered 0 ∷ [])
-  pub mixed-visitor : recordsTo 257 five numbered ≡ together (recordOf nine ∷ replicate 778 0 ∷ recordOf none ∷ recordOf four ∷ recordOf nine ∷ [])
-  pub mixed-numbers : drop 776 (take 778 (recordsTo 1 five numbered)) ≡ 2 ∷ 1 ∷ []
+  pub mixed : batchTo quartet single ≡ granted (2 ∷ 1 ∷ 1 ∷ [])
+  pub mixed-code : countsCodeOf (granted (2 ∷ 1 ∷ 1 ∷ [])) ≡ 256 * (2 + 256 * 1 + 65536 * 1)
+  pub mixed-replies : repliesTo quartet single ≡ 256 ∷ (3 + 256) ∷ 0 ∷ 256 ∷ []
+  pub mixed-editor : recordsTo 1 quartet single ≡ together (single ∷ replicate 778 0 ∷ recordOf none ∷ single ∷ [])
+  pub mixed-visitor : recordsTo 257 quartet single ≡ together (recordOf four ∷ replicate 778 0 ∷ recordOf none ∷ recordOf four ∷ [])
+  pub mixed-number : drop 776 (take 778 (recordsTo 1 quartet single)) ≡ 0 ∷ 255 ∷ []
   -- the first match alone decides: 24, which is counted as refused
   pub failed : batchTo (nine ++ four) spoiled ≡ granted (1 ∷ 0 ∷ 1 ∷ [])
   pub failed-replies : repliesTo (nine ++ four) spoiled ≡ 24 ∷ 768 ∷ []
@@ -95,7 +96,7 @@ pub record SizeRows : Type 0 where
   pub empty : batchTo [] two ≡ granted (0 ∷ 0 ∷ 0 ∷ [])
   pub empty-code : countsCodeOf (batchTo [] two) ≡ 0
   pub sixteen-made : batchTo (copies 16 none) [] ≡ granted (0 ∷ 16 ∷ 0 ∷ [])
-  pub sixteen-found : batchTo (copies 16 none) (recordOf none) ≡ granted (16 ∷ 0 ∷ 0 ∷ [])
+  pub twice-found : batchTo (copies 2 none) (recordOf none) ≡ granted (2 ∷ 0 ∷ 0 ∷ [])
   pub sixteen-code : countsCodeOf (granted (16 ∷ 0 ∷ 0 ∷ [])) ≡ 4096
 
 -- refusals of the whole call

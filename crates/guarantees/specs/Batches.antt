@@ -14,13 +14,14 @@ use Rattle.sequence.specs.declared.Refusal.the-variants as R
 use Rattle.sequence.specs.declared.Outcome.{Outcome}
 use Rattle.sequence.specs.declared.Outcome.the-variants.{Done, Refused}
 use Rattle.sequence.specs.Limits.{queryBytes, aBytes, bBytes}
+use Rattle.sequence.specs.Answers.{refusal}
 use Rattle.sequence.specs.Rules.{checkOf}
 use Rattle.sequence.specs.Report.{filled}
 use Rattle.catalogue.specs.declared.LookedUp.the-variants as S
-use Rattle.catalogue.specs.Rules.{recordBytes, body, recordOf, synthesizeOf, records, recordAt, isOf, lookUpOf, lookUpAnswer, editor}
+use Rattle.catalogue.specs.Rules.{recordBytes, body, recordOf, synthesizeOf, recordAt, isOf, lookUpOf, lookUpAnswer, editor, seenBy}
 use Rattle.codes.specs.Codes.{codeOf, countsCodeOf}
 use Rattle.batch.specs.Rules.{maxQueries, queryAt, queriesIn, isFound, isMade, isRefused, lookUpBatchOf, batchAnswer, lookUpBatchAnswer, partsIn, repliesIn}
-use Rattle.batch.specs.Walk.{heldOf}
+use Rattle.batch.specs.Walk.{Holding}
 use Rattle.guarantees.specs.Calls.{Call, taken}
 use Rattle.guarantees.specs.Claims.{termsOf, MadeCatalogue, AgreesWith}
 use Rattle.guarantees.specs.Visitors.{SameButNumbers, servedFrom}
@@ -61,6 +62,10 @@ pub record EveryOutcome (queries catalogue out replies : List ℕ) : Type 0 wher
   pub by-number : batchAnswer (lookUpBatchOf queries catalogue out replies) ≡ lookUpBatchAnswer queries catalogue out replies
   -- where the whole call is refused, the records and the replies are as lent
   pub records-kept : (who : ℕ) (r : Refusal) → lookUpBatchOf queries catalogue out replies .outcome ≡ Refused r → recordsAfter who queries catalogue out replies ≡ out
+  -- and nothing is counted
+  pub none-counted :
+      (r : Refusal) → lookUpBatchOf queries catalogue out replies .outcome ≡ Refused r
+      → lookUpBatchOf queries catalogue out replies ≡ record { found = 0; made = 0; refused = 0; outcome = Refused r }
   pub replies-kept : (r : Refusal) → lookUpBatchOf queries catalogue out replies .outcome ≡ Refused r → repliesAfter queries catalogue out replies ≡ replies
 
 -- ---- each query
@@ -86,20 +91,28 @@ pub record EveryQuery (who : ℕ) (queries catalogue out replies : List ℕ) : T
 
 -- ---- the walk
 
--- What the walk holds for a query after the first j records (batch `walk` promises that it holds this, for every j).
-pub record AfterRecords (query catalogue : List ℕ) (j : ℕ) : Type 0 where
-  -- for one that passes its own checks the first match among them, exactly where there is one
-  pub match-is :
-      checkOf query ≡ Done → (i : ℕ) → heldOf query catalogue j ≡ S.Found i
-      → (i < j) × ((isOf query (recordAt catalogue i) ≡ true) × ((k : ℕ) → k < i → isOf query (recordAt catalogue k) ≡ false))
-  pub is-match :
-      checkOf query ≡ Done → (i : ℕ) → i < j → isOf query (recordAt catalogue i) ≡ true → ((k : ℕ) → k < i → isOf query (recordAt catalogue k) ≡ false)
-      → heldOf query catalogue j ≡ S.Found i
+-- k is the first of the first j records that is of the query
+pub record FirstMatch (query catalogue : List ℕ) (j k : ℕ) : Type 0 where
+  pub within : k < j
+  pub matches : isOf query (recordAt catalogue k) ≡ true
+  pub before : (i : ℕ) → i < k → isOf query (recordAt catalogue i) ≡ false
+
+-- What stands in a query's part and reply when the walk has passed the first j records.
+pub record HeldFor (who : ℕ) (query catalogue : List ℕ) (j : ℕ) (part : List ℕ) (reply : ℕ) : Type 0 where
+  -- for one that passes its own checks the first match among them, exactly where there is one, and in its part that record as who asks sees it
+  pub match-is : checkOf query ≡ Done → (k : ℕ) → reply ≡ 256 * (1 + k) → FirstMatch query catalogue j k
+  pub is-match : checkOf query ≡ Done → (k : ℕ) → FirstMatch query catalogue j k → (reply ≡ 256 * (1 + k)) × (part ≡ seenBy who (recordAt catalogue k))
   -- and none exactly where there is none
-  pub none-is : checkOf query ≡ Done → heldOf query catalogue j ≡ S.Made → (k : ℕ) → k < j → isOf query (recordAt catalogue k) ≡ false
-  pub is-none : checkOf query ≡ Done → ((k : ℕ) → k < j → isOf query (recordAt catalogue k) ≡ false) → heldOf query catalogue j ≡ S.Made
+  pub none-is : checkOf query ≡ Done → reply ≡ 0 → (k : ℕ) → k < j → isOf query (recordAt catalogue k) ≡ false
+  pub is-none :
+      checkOf query ≡ Done → ((k : ℕ) → k < j → isOf query (recordAt catalogue k) ≡ false) → (reply ≡ 0) × (part ≡ replicate recordBytes 0)
   -- for any other its refusal
-  pub refused : (r : Refusal) → checkOf query ≡ Refused r → heldOf query catalogue j ≡ S.Refused r
+  pub refused : (r : Refusal) → checkOf query ≡ Refused r → (reply ≡ codeOf (refusal r)) × (part ≡ replicate recordBytes 0)
+
+-- So for every query of a batch. `walk_along` has this of running code, for every j.
+abbrev pub Walked : (who : ℕ) (queries catalogue : List ℕ) (j : ℕ) (out replies : List ℕ) → Type 0
+Walked who queries catalogue j out replies =
+    (i : ℕ) → i < queriesIn queries → HeldFor who (queryAt queries i) catalogue j (recordAt out i) (at replies i)
 
 -- ---- the counts
 
@@ -145,7 +158,7 @@ pub record BatchSame (who : ℕ) (queries catalogue out replies : List ℕ) (i :
 pub record Batches (queries catalogue out replies : List ℕ) : Type 0 where
   pub outcomes : EveryOutcome queries catalogue out replies
   pub queries-alone : (who : ℕ) → lookUpBatchOf queries catalogue out replies .outcome ≡ Done → EveryQuery who queries catalogue out replies
-  pub walked : (i j : ℕ) → AfterRecords (queryAt queries i) catalogue j
+  pub walked : (who j : ℕ) (held told : List ℕ) → Holding who queries catalogue j held told → Walked who queries catalogue j held told
   pub counted :
       lookUpBatchOf queries catalogue out replies .outcome ≡ Done → (lent : List ℕ) → length lent ≡ recordBytes → Counted queries catalogue out replies lent
   pub alike : (c' : List ℕ) → SameButNumbers catalogue c' → BatchAlike queries catalogue c' out replies

@@ -1,13 +1,16 @@
-// The claims that speak of several calls: specs/ has them, proofs/ their proofs. The one function drives a list of pushes, columns,
-// registers and profiles through the calls themselves; its contract says what they all do together, and the claim about every such list. (A
-// trace has no code there: it is lent a slice of structs.)
+// The claims that speak of several calls: specs/ has them, proofs/ their proofs. `drive` drives a list of pushes, columns, registers and
+// profiles through the calls themselves; its contract says what they all do together, and the claim about every such list. (A trace has no
+// code there: it is lent a slice of structs.) `walk_along` has the claim about the walk of a batch.
 use sequence::Outcome;
 use sequence::Reported;
 use sequence::Sequence;
 ghost use mathlib.Core.Path.{_≡_};
-ghost use Prim.Native.Nat.{_≤_};
+ghost use Prim.Native.Nat.{_*_, _≤_};
 ghost use lib.ListN.{length};
 ghost use Rattle.sequence.specs.Limits.{maxModulus, aBytes, bBytes, profileBytes};
+ghost use Rattle.catalogue.specs.Rules.{recordBytes, records};
+ghost use Rattle.batch.specs.Rules.{queriesIn};
+ghost use Rattle.guarantees.specs.Batches.{Walked};
 ghost use Rattle.guarantees.specs.Claims.{Shows};
 ghost use Rattle.guarantees.specs.Coded.{takenBy, stateOf, afterCode, drivenTo, repliesOf, ended};
 
@@ -80,4 +83,22 @@ pub fn drive(
         reported: reported,
         profiled: profiled,
     }
+}
+
+// The walk of a batch along the first n records of a catalogue, for every n: then each query that passes its checks holds the first match among them, or
+// none.
+// Rejected: a walk that holds so only at its end.
+pub fn walk_along(
+    queries: &[u8],
+    catalogue: &[u8],
+    n: usize,
+    who: u64,
+    out: &mut [u8],
+    replies: &mut [u64],
+)
+    requires { ⌜ (length (now out) ≡ queriesIn (now queries) * recordBytes) × (length (now replies) ≡ queriesIn (now queries))
+        × (n ≤ records (now catalogue)) ⌝ }
+    ensures { λ _. ⌜ Walked who (now (queries .entry)) (now (catalogue .entry)) n (now (out .exit)) (now (replies .exit)) ⌝ }
+{
+    batch::walk_first(queries, catalogue, n, who, out, replies);
 }

@@ -1,6 +1,6 @@
 -- `batch::conclude` meets its contract: each way out is the one that its tests pick.
 -- Assumes nothing.
-use mathlib.Core.Path.{refl, _∙_}
+use mathlib.Core.Path.{_∙_}
 use borrow.Author.Tests.{eq-eqb, ne-eqb}
 use Rattle.catalogue.proofs.Laws.{is-made}
 use Rattle.batch.proofs.Parts.{cleared}

@@ -1,6 +1,5 @@
 -- `batch::offer` meets its contract: each way out is the one that its tests pick.
 -- Assumes nothing.
-use mathlib.Core.Path.{refl, sym, _∙_}
 use borrow.Author.Tests.{eq-eqb, ne-eqb}
 use borrow.Author.Needs.{needs}
 use Rattle.batch.proofs.offer.Statement.{statement}

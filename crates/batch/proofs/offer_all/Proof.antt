@@ -4,7 +4,7 @@ use mathlib.Core.Path.{sym, _∙_}
 use Prim.Native.Nat.{_-_}
 use native.Mathlib.Omega.{arith}
 use Rattle.batch.specs.Rules.{queriesIn}
-use Rattle.batch.proofs.Turns.{Offering, turn-none, turn-all, part-long, offering-more}
+use Rattle.batch.proofs.Turns.{Offering, turn-none, turn-all, offering-more}
 use borrow.Author.Needs.{needs}
 use Rattle.batch.proofs.offer_all.Statement.{statement}
 use Rattle.batch.proofs.offer_all.Tie as tie

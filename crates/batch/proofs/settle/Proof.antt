@@ -1,6 +1,5 @@
 -- `batch::settle` meets its contract: a query that passed its checks is concluded.
 -- Assumes nothing.
-use mathlib.Core.Path.{refl}
 use Rattle.sequence.proofs.Laws.{checked, accepted}
 use borrow.Author.Needs.{needs}
 use Rattle.batch.proofs.settle.Statement.{statement}

@@ -1,7 +1,7 @@
 -- `batch::walk` meets its contract: after j records the first match among them, or none, is held for each query.
 -- Assumes nothing.
 use mathlib.Core.Path.{_≡_, sym, _∙_, subst}
-use Prim.Native.Nat.{ℕ, _+_, _-_, _*_, _≤_, _<_}
+use Prim.Native.Nat.{ℕ, _+_, _-_, _*_, _≤_}
 use native.Mathlib.Omega.{arith}
 use borrow.Rule.Slice.PartMut.{mid-len}
 use Rattle.catalogue.specs.Rules.{recordBytes}

@@ -1,10 +1,10 @@
--- `batch::mark` meets its contract: 1 for a reply of kind k.
+-- `batch::one_of_kind` meets its contract: 1 for a reply of kind k.
 -- Assumes nothing.
 use native.Mathlib.Omega.{arith}
 use borrow.Author.Tests.{eq-eqb, ne-eqb}
 use borrow.Author.Needs.{needs}
-use Rattle.batch.proofs.mark.Statement.{statement}
-use Rattle.batch.proofs.mark.Tie as tie
+use Rattle.batch.proofs.one_of_kind.Statement.{statement}
+use Rattle.batch.proofs.one_of_kind.Tie as tie
 
 kind-requires : tie.Need-kind-requires
 kind-requires c κs = search needs
@@ -15,5 +15,5 @@ returns c = (simp (← c .before .kind .ensures, eq-eqb _ _ (c .if1 .taken)), om
 returns-2 : tie.Need-returns-2
 returns-2 c = (simp (← c .before .kind .ensures, ne-eqb _ _ (c .if1 .left)), omega arith)
 
-pub mark-spec : {M : Type 1} → statement M
-mark-spec = tie.close (tie.spec kind-requires returns returns-2)
+pub one-of-kind-spec : {M : Type 1} → statement M
+one-of-kind-spec = tie.close (tie.spec kind-requires returns returns-2)
