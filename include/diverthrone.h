@@ -95,7 +95,7 @@ uint64_t diverthrone_synthesize(const uint8_t *query, size_t query_len, uint8_t 
 uint64_t diverthrone_look_up(const uint8_t *query, size_t query_len, const uint8_t *catalogue, size_t catalogue_len, uint64_t who,
                              uint8_t *record, size_t record_len);
 
-/* Looks up a batch: up to 16 queries of 260 bytes end to end, in one walk along the catalogue, in which each record is read once. Each query
+/* Looks up a batch: up to 16 queries of 260 bytes end to end, in one walk along the catalogue, in which each record is passed once. Each query
  * gets what diverthrone_look_up would give it alone from the same catalogue for who asks; queries may be equal, and each is answered.
  * Of query i, counted from 0, replies[i] is that reply: 0 for a record made, 256 * (1 + its place) for one found, the number of a refusal,
  * with 256 * the place added for 3. The 778 bytes of records from 778 * i on are that record, or zeros where the query is refused.

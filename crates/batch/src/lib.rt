@@ -89,20 +89,20 @@ fn offer_all(queries: &[u8], entry: &[u8], j: usize, who: u64, out: &mut [u8], r
         × (length (now out) ≡ queriesIn (now queries) * recordBytes) × (length (now replies) ≡ queriesIn (now queries)) ⌝ }
     ensures { λ _. ⌜ Offered who (now (queries .entry)) (now (entry .entry)) j (now (out .entry)) (now (replies .entry)) (now (out .exit)) (now (replies .exit)) ⌝ }
 {
-    let mut q: usize = 0;
-    while q < replies.len() {
-        let at = q * QUERY_BYTES;
-        let to = q * RECORD_BYTES;
+    let mut i: usize = 0;
+    while i < replies.len() {
+        let at = i * QUERY_BYTES;
+        let to = i * RECORD_BYTES;
         let r = offer(
             &queries[at..at + QUERY_BYTES],
             entry,
             j,
             who,
             &mut out[to..to + RECORD_BYTES],
-            replies[q],
+            replies[i],
         );
-        replies[q] = r;
-        q += 1;
+        replies[i] = r;
+        i += 1;
     }
 }
 

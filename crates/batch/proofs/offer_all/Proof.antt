@@ -1,4 +1,4 @@
--- `batch::offer_all` meets its contract: the queries below q were offered the record, the others hold what they held.
+-- `batch::offer_all` meets its contract: the queries below i were offered the record, the others hold what they held.
 -- Assumes nothing.
 use mathlib.Core.Path.{sym, _∙_}
 use Prim.Native.Nat.{_-_}
@@ -10,10 +10,10 @@ use Rattle.batch.proofs.offer_all.Statement.{statement}
 use Rattle.batch.proofs.offer_all.Tie as tie
 
 abbrev Inv-loop : tie.InvT-loop
-Inv-loop queries entry j who out₀ replies₀ q₀ out replies q = Offering who queries entry j out₀ replies₀ q out replies
+Inv-loop queries entry j who out₀ replies₀ i₀ out replies i = Offering who queries entry j out₀ replies₀ i out replies
 
 abbrev μ-loop : tie.MeasureT-loop
-μ-loop queries entry j who out₀ replies₀ q₀ out replies q = queriesIn queries - q
+μ-loop queries entry j who out₀ replies₀ i₀ out replies i = queriesIn queries - i
 
 loop-holds : tie.Need-loop-holds Inv-loop μ-loop
 loop-holds c =
@@ -65,8 +65,8 @@ mul-replies c = search needs
 slice-write-replies : tie.Need-slice-write-replies Inv-loop μ-loop
 slice-write-replies c = search needs
 
-add-q : tie.Need-add-q Inv-loop μ-loop
-add-q c = search needs
+add-i : tie.Need-add-i Inv-loop μ-loop
+add-i c = search needs
 
 loop-less : tie.Need-loop-less Inv-loop μ-loop
 loop-less c = search needs
@@ -109,7 +109,7 @@ offer-all-spec =
     offer-requires
     mul-replies
     slice-write-replies
-    add-q
+    add-i
     loop-less
     loop-again
     same-length
