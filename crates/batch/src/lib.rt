@@ -111,7 +111,7 @@ fn slot(entry: &[u8]) -> usize
     requires { ⌜ 12 ≤ length (now entry) ⌝ }
     ensures { λ r. ⌜ (r ≡ slotOf (now (entry .entry))) × (r < slots) ⌝ }
 {
-    (catalogue::word(entry) % 4099) as usize
+    (catalogue::word(entry) % SLOTS as u64) as usize
 }
 
 // Marks the slot of every query.

@@ -62,11 +62,11 @@ pub record EveryOutcome (queries catalogue out replies : List ℕ) : Type 0 wher
   pub by-number : batchAnswer (lookUpBatchOf queries catalogue out replies) ≡ lookUpBatchAnswer queries catalogue out replies
   -- where the whole call is refused, the records and the replies are as lent
   pub records-kept : (who : ℕ) (r : Refusal) → lookUpBatchOf queries catalogue out replies .outcome ≡ Refused r → recordsAfter who queries catalogue out replies ≡ out
+  pub replies-kept : (r : Refusal) → lookUpBatchOf queries catalogue out replies .outcome ≡ Refused r → repliesAfter queries catalogue out replies ≡ replies
   -- and nothing is counted
   pub none-counted :
       (r : Refusal) → lookUpBatchOf queries catalogue out replies .outcome ≡ Refused r
       → lookUpBatchOf queries catalogue out replies ≡ record { found = 0; made = 0; refused = 0; outcome = Refused r }
-  pub replies-kept : (r : Refusal) → lookUpBatchOf queries catalogue out replies .outcome ≡ Refused r → repliesAfter queries catalogue out replies ≡ replies
 
 -- ---- each query
 
