@@ -1,6 +1,5 @@
 /* The same algorithm in C, for comparison: the steps at each prime power with only a kept, lengths by the law, the join, b at the end.
- * Compiled twice: as it is (PLAIN: remainders by %), and with TRICKS (remainders by two products, one division a call of the inverse).
- * Exact up to the modulus 65,535: a product of two residues, with another residue added, is below q^2 < 2^32; a sum of 128 of them has 64 bits. */
+ * Compiled twice: as it is (PLAIN: remainders by %), and with TRICKS (remainders by two products, one division a call of the inverse). */
 #include <stdint.h>
 #include <string.h>
 
@@ -12,7 +11,6 @@ typedef struct {
 
 #ifdef TRICKS
 #define NAME(f) tricks_##f
-/* x < q^2, and scale is above 2^48 / q by at most 1: x * scale < 2^64, and the quotient is exact since x * q < q^3 < 2^48. */
 static inline uint32_t reduce(uint32_t x, uint32_t q, uint64_t scale) { return x - (uint32_t)((x * scale) >> 48) * q; }
 static pair euclid(uint32_t a, uint32_t m) {
     if (a <= 1) return (pair){1, 1};
@@ -97,7 +95,6 @@ void NAME(register)(uint32_t m, const uint32_t *s, int n, uint32_t *a, uint32_t 
         int e = 0;
         for (; rest % p == 0; rest /= p, e++) q *= p;
         steps(s, n, p, e, q, row, row_lens);
-        /* Where `big` is not 1, and `unit` may be another number, q is at most 32,767: the product below has 32 bits. */
         uint32_t unit = inverse(big % q ? big % q : 1, q);
         for (int i = 0; i < CELLS; i++)
             if (a[i] != row[i]) a[i] += big * ((row[i] + q - a[i] % q) * unit % q);

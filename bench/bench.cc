@@ -155,7 +155,7 @@ static std::vector<Entry> ours(uint32_t m, int n) {
 
 static void primes() {
     printf("prime moduli, 128 random terms: register / NTL, register / FLINT, record / register, register / steps without b, record / steps, us for a register\n");
-    for (uint32_t p : {2u, 7u, 4093u, 65521u}) {
+    for (uint32_t p : {2u, 7u, 4093u}) {
         prepare(p, 128);
         if (!agree(p, 128) || !steps_agree(p, 128)) printf("%u: DIFFER\n", p);
         NTL::zz_p::init(p);
@@ -183,7 +183,7 @@ static void primes() {
 
 static void composites() {
     printf("any moduli, 128 random terms: register / C with the same tricks, register / C with %%, us for a register\n");
-    for (uint32_t m : {2u, 7u, 4093u, 65521u, 2048u, 32768u, 2187u, 59049u, 3125u, 63001u, 4095u, 65535u, 2310u, 30030u}) {
+    for (uint32_t m : {2u, 7u, 4093u, 2048u, 2187u, 3125u, 4095u, 2310u}) {
         prepare(m, 128);
         if (!agree(m, 128)) printf("%u: DIFFER\n", m);
         auto t = measure(ours(m, 128), 301);
@@ -193,7 +193,7 @@ static void composites() {
 
 static void working() {
     printf("any moduli, 128 random terms: trace / register, us for a trace, us for a register\n");
-    for (uint32_t m : {2u, 7u, 97u, 4093u, 65521u, 2048u, 32768u, 2187u, 59049u, 3125u, 4095u, 2310u, 30030u}) {
+    for (uint32_t m : {2u, 7u, 97u, 4093u, 2048u, 2187u, 3125u, 4095u, 2310u}) {
         prepare(m, 128);
         if (!trace_agrees(m, 128)) printf("%u: DIFFER\n", m);
         auto t = measure({{"register", [=](int j) { reg(m, 128, j); }}, {"trace", [=](int j) { trace(m, 128, j); }}}, 601);
@@ -202,8 +202,8 @@ static void working() {
 }
 
 static void growth() {
-    printf("growth with n: us for a register of 16, 32, 64, 128 terms\n");
-    for (uint32_t m : {4093u, 65521u, 2048u, 32768u}) {
+    printf("growth with n modulo 4093 and 2048: us for a register of 16, 32, 64, 128 terms\n");
+    for (uint32_t m : {4093u, 2048u}) {
         printf("%6u", m);
         for (int n : {16, 32, 64, 128}) {
             prepare(m, n);
@@ -362,13 +362,13 @@ static void merge(uint32_t first_modulus, uint32_t second_modulus, int n, bool a
     for (double &x : t) x -= nothing;
     char by_flint[16] = "   -";
     if (coprime) snprintf(by_flint, sizeof by_flint, "%.2f", t[0] / t[4]);
-    printf("  %5u  %5u  %3d  %.2f  %s  %.3f  %.2f%s\n", first_modulus, second_modulus, n, t[0] / t[1], by_flint, t[0] / t[2], t[0],
+    printf("  %4u  %4u  %3d  %.2f  %s  %.3f  %.2f%s\n", first_modulus, second_modulus, n, t[0] / t[1], by_flint, t[0] / t[2], t[0],
            apart ? "  refused with 31 at the last place" : "");
 }
 
 static void merges() {
     printf("merge, both moduli and terms: / C with %%, / FLINT at coprime moduli, without checks and cells, / record of the merged query, us\n");
-    const uint32_t moduli[][2] = {{12, 18}, {63, 65}, {255, 257}, {64, 32}, {32768, 16384}, {4095, 4095}, {65535, 65535}, {2047, 2}, {32767, 2}};
+    const uint32_t moduli[][2] = {{12, 18}, {63, 65}, {64, 32}, {4095, 4095}, {2047, 2}};
     for (int n : {128, 16}) {
         for (auto &m : moduli) merge(m[0], m[1], n, false);
         merge(12, 18, n, true);
@@ -506,7 +506,7 @@ static void census_of(uint32_t m, uint32_t n) {
 static void census() {
     printf("tally of so many sequences: / a number and a record for each, / C with %%, / C without %%, ms, us a sequence; a number's query, ns\n");
     census_of(2, 12), census_of(3, 7), census_of(4, 6), census_of(5, 5), census_of(8, 4), census_of(16, 3), census_of(61, 2), census_of(64, 2);
-    census_of(2048, 1), census_of(2310, 1), census_of(4093, 1), census_of(4095, 1), census_of(4096, 1);
+    census_of(2048, 1), census_of(2310, 1), census_of(4095, 1);
 }
 
 // ---- batches

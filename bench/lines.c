@@ -48,7 +48,7 @@ static void put(uint8_t *query, unsigned cell, uint64_t value) {
 }
 
 static uint64_t finish(uint64_t modulus, const int32_t *terms, uint64_t count, uint8_t *query) {
-    if (modulus < 2 || modulus > 65535) return 1;
+    if (modulus < 2 || modulus > 4095) return 1;
     if (count > 128) return 2;
     memset(query, 0, 260);
     put(query, 0, modulus), put(query, 1, count);

@@ -1,7 +1,5 @@
 /* Two queries merged to one modulo the least common multiple of their moduli in plain C, with the same refusals in the same order: for
- * comparison with diverthrone_merge. One pass over the terms, the remainders by %, one inverse for the whole query.
- * Only the multiple before 30 needs more than 31 bits: behind it `nu` is at most 32,767 where `unit` is not 1, so that a product with `unit`
- * is below 2^30. */
+ * comparison with diverthrone_merge. One pass over the terms, the remainders by %, one inverse for the whole query. */
 #include <stddef.h>
 #include <stdint.h>
 #include <string.h>
@@ -18,7 +16,7 @@ static void put(uint8_t *query, int i, int value) {
 /* What is wrong with one query: 1, 2, 3 with the place, 4; or 0. */
 static uint64_t own_refusal(const uint8_t *query) {
     int modulus = cell(query, 0), count = cell(query, 1);
-    if (modulus < 2 || modulus > 65535) return 1;
+    if (modulus < 2 || modulus > 4095) return 1;
     if (count > TERMS) return 2;
     for (int i = 0; i < count; i++)
         if (cell(query, 2 + i) >= modulus) return 3 + 256 * (uint64_t)i;
@@ -56,7 +54,7 @@ uint64_t plain_merge(const uint8_t *first, size_t first_len, const uint8_t *seco
     int a = cell(first, 0), b = cell(second, 0), n = cell(first, 1);
     if (n != cell(second, 1)) return 29;
     int g = common_divisor(a, b), nu = b / g;
-    if ((int64_t)a * nu > 65535) return 30;
+    if (a * nu > 4095) return 30;
     int unit = inverse(a / g, nu);
     uint8_t merged[BYTES] = {0};
     put(merged, 0, a * nu), put(merged, 1, n);

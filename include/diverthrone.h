@@ -24,7 +24,7 @@
  *
  *    refusal  meaning
  *       0     none
- *       1     the modulus is below 2 or above 65,535; a query has two bytes for it, so that there it is 0 or 1
+ *       1     the modulus is below 2 or above 4,095
  *       2     the count of terms, or of cells to run, is above 128
  *       3     one of a query's terms is not below its modulus, or a digit of a period is above 1; the value is the place of the first of them
  *       4     a query holds something other than zero past its count
@@ -39,7 +39,7 @@
  *             has there, or the line's length if it ends too soon
  *      28     a typed term is out of its range, or a typed modulus above 2,147,483,647; the value is the place of the digit that passes it
  *      29     the counts of the two queries differ
- *      30     the least common multiple of the two moduli is above 65,535
+ *      30     the least common multiple of the two moduli is above 4,095
  *      31     two terms at the same place disagree modulo the greatest common divisor of the moduli, so that no number leaves both; the value
  *             is the place of the first such pair
  *      32     the number of cells lent as a period is none of 1, 2, 4, 8, 16, 32, 64
@@ -144,8 +144,8 @@ uint64_t diverthrone_period_length(const uint8_t *cells, size_t cells_len);
 /* Writes the query of the sequence with this number, among all sequences of so many terms modulo the modulus. They are counted from 0 in
  * dictionary order by first term, so that the last term runs fastest and every sequence has exactly one number: number 0 is all zeros, and
  * modulo 2 with 3 terms number 1 is 0,0,1 and number 6 is 1,1,0. Value 0.
- * There are modulus^count of them, and the power may be at most 4,096: 12 terms modulo 2, 2 terms up to the modulus 64, one term up to 4,096.
- * No terms are one sequence, number 0, for every modulus. All 64 bits of the number are looked at: 2^32 + 6 is not 6.
+ * There are modulus^count of them, and the power may be at most 4,096: 12 terms modulo 2, 2 terms up to the modulus 64, one term up to 4,095.
+ * No terms are one sequence, number 0. All 64 bits of the number are looked at: 2^32 + 6 is not 6.
  * The query is the one that would be written by hand, zero past the count, and diverthrone_synthesize refuses none of them.
  * Refusals in order: 5 (query), 1, 2, 33. */
 uint64_t diverthrone_enumerate(uint32_t modulus, uint32_t count, uint64_t number, uint8_t *query, size_t query_len);

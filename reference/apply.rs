@@ -38,7 +38,7 @@ pub fn apply(m: u64, n: usize, sheet: &[StepRecord]) -> Option<Register> {
     }
     let joined = |remainder: &dyn Fn(&Pair) -> u64| {
         let parts: Vec<(u64, u64)> = ends.iter().map(|(pair, q)| (remainder(pair), *q)).collect();
-        chinese_remainder(parts)
+        chinese_remainder(&parts)
     };
     Some(Register {
         length: ends.iter().map(|(pair, _)| length(pair)).max()?,

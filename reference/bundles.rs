@@ -8,9 +8,9 @@ use crate::catalogues::{
 };
 use crate::limits::*;
 use crate::random::Random;
-use crate::scenarios::{fitted, full_sequences, plain, trivial};
+use crate::scenarios::{fitted, plain, trivial};
 use crate::script::{Call, Operation};
-use crate::sequences::{self, damage, set_cell, LARGE};
+use crate::sequences::{self, damage, set_cell};
 
 /// What the lent bytes are where the bundles are not random.
 const FILL: u8 = 0xa5;
@@ -66,11 +66,11 @@ fn slips() -> Vec<Vec<u8>> {
         (2, &[0, 0, 1]),
         (6, &[1, 0]),
         (9, &[]),
-        (65535, &[65534]),
-        (32768, &[16384, 512]),
-        (30030, &[1, 30029, 7]),
-        (65521, &[0, 65520]),
-        (4096, &[4095, 1]),
+        (4095, &[4094]),
+        (2048, &[1024, 512]),
+        (30, &[1, 29, 7]),
+        (4093, &[0, 1]),
+        (256, &[255, 1]),
     ];
     let mut all: Vec<Vec<u8>> = short.iter().map(|(m, terms)| slip_of(*m, terms)).collect();
     all.push(full_record(0)[..SLIP_BYTES].to_vec());
@@ -97,10 +97,10 @@ fn numbered(m: u64, terms: &[u64], number: u16) -> Vec<u8> {
     record
 }
 
-/// A good record that has few zeros: 128 terms modulo 65,535 as b, with a = 1.
+/// A good record that has few zeros: 128 terms modulo 4,095 as b, with a = 1.
 fn full_record(number: u16) -> Vec<u8> {
-    let terms = [0xfe0d; TERMS_LIMIT];
-    let mut record = record_with(&slip_of(65535, &terms), &trivial(&terms));
+    let terms = [0x0e0d; TERMS_LIMIT];
+    let mut record = record_with(&slip_of(4095, &terms), &trivial(&terms));
     set_number(&mut record, number);
     record
 }
@@ -137,7 +137,6 @@ fn by_hand() -> Vec<Call> {
         same_start(),
         places(),
         askers(),
-        full_bundles(),
         wrong_slips_lengths(),
         wrong_records_lengths(),
         wrong_replies_lengths(),
@@ -209,13 +208,13 @@ fn duplicates() -> Vec<Call> {
     all
 }
 
-/// What makes the slip a wrong one: besides those of single servings another modulus and counts,
-/// more places, and several faults.
+/// What makes the slip a wrong one: besides those of single servings other moduli and counts, more
+/// places, and several faults.
 fn faults_of_slips() -> Vec<Vec<u8>> {
     let more: [&[(usize, u16)]; 13] = [
         &[(0, 0)],
-        &[(0, 0), (1, 0)],
-        &[(0, 1), (2, 65535)],
+        &[(0, 4096)],
+        &[(0, 65535)],
         &[(1, 65535)],
         &[(1, 256)],
         &[(4, 9)],
@@ -314,7 +313,7 @@ fn same_terms() -> Vec<Asked> {
     vec![
         (9, TERMS.to_vec()),
         (10, TERMS.to_vec()),
-        (65535, TERMS.to_vec()),
+        (4095, TERMS.to_vec()),
         (9, vec![6, 3, 1, 5]),
         (9, vec![6, 3, 1, 5, 6, 0]),
         (9, vec![6, 3, 1, 5, 6, 0, 0]),
@@ -392,19 +391,6 @@ fn askers() -> Vec<Call> {
         }
     }
     all
-}
-
-/// 128 terms for each of the moduli that are met so, from no record, from all of theirs, and from
-/// shelves that lack some and have another of the same modulus in their place.
-fn full_bundles() -> Vec<Call> {
-    let all = LARGE.map(|m| (m, full_sequences(m)));
-    let slips: Vec<u8> = all.iter().flat_map(|(m, [any, ..])| slip_of(*m, any)).collect();
-    let shelf = |kinds: [usize; 2]| -> Vec<u8> {
-        let with = |place: usize| &all[place].1[kinds[place % 2]];
-        (0..all.len()).flat_map(|i| numbered(all[i].0, with(i), 0x0500 + i as u16)).collect()
-    };
-    let shelves = [Vec::new(), shelf([0, 0]), shelf([0, 1]), shelf([1, 0])];
-    shelves.iter().flat_map(|shelf| both(&slips, shelf)).collect()
 }
 
 /// Other lengths of the slips, with buffers for as many whole ones as there are, and for one more.
@@ -664,6 +650,5 @@ fn spoil(random: &mut Random, call: &mut Call) {
 /// Mostly another size of the records than the right one.
 fn wrong_records(random: &mut Random, right: usize, count: usize) -> usize {
     let less = right.saturating_sub(RECORD_BYTES);
-    let near = random.pick(&[right.max(1) - 1, right + 1]);
-    random.pick(&[0, near, near, right + RECORD_BYTES, less, 776 * count])
+    random.pick(&[0, right.max(1) - 1, right + 1, right + RECORD_BYTES, less, 776 * count])
 }

@@ -1,4 +1,4 @@
-//! The calls of document 01, and of requests A1 to A3, A5 and A7 to A13 in 02, on plain
+//! The calls of document 01, and of requests A1 to A3, A5 and A7 to A12 in 02, on plain
 //! values and byte buffers.
 //!
 //! "Order where several apply: 5, 21, 1, 2, 22, 3, 4, 6, 23, 24. Each call gives

@@ -5,11 +5,9 @@ use crate::calls::{record_with, slip_of};
 use crate::join::register as register_of;
 use crate::limits::*;
 use crate::random::Random;
-use crate::scenarios::{
-    change, fitted, full_sequences, lengthen, nearly, plain, spoil, trivial, Candidate,
-};
+use crate::scenarios::{change, fitted, lengthen, nearly, plain, spoil, trivial, Candidate};
 use crate::script::{Call, Operation};
-use crate::sequences::{any_slip, count, damage, modulus, structured, terms, LARGE};
+use crate::sequences::{any_slip, count, damage, modulus, structured, terms};
 
 /// Visitors. Some would be an editor if their number were cut to one byte, to two or to
 /// three, or if any number but 0 meant one.
@@ -65,43 +63,17 @@ fn by_hand() -> Vec<Call> {
         calls.extend(wrong_sizes(who));
     }
     calls.extend(makings_by_hand());
-    calls.extend(LARGE.into_iter().flat_map(full_terms));
     calls
-}
-
-/// 128 terms for a modulus: a making, servings from an empty shelf and from one that has the record
-/// after another, for an editor and for a visitor, and of a record whose a_1 is another.
-fn full_terms(m: u64) -> Vec<Call> {
-    let [any, half, _] = full_sequences(m);
-    let (slip, other) = (slip_of(m, &any), made(m, &half));
-    let mut record = made(m, &any);
-    set_number(&mut record, 0x1234);
-    let mut bad = record.clone();
-    bad[RECORD_A_AT + CELL_BYTES] ^= 1;
-    let serving = |who, shelf: &[u8]| {
-        let payload = [&slip, shelf].concat();
-        Call { payload, ..served(who, 0xa5, shelf, RECORD_BYTES) }
-    };
-    let lengths = [SLIP_BYTES as u16, RECORD_BYTES as u16, 0];
-    let (operation, payload) = (Operation::Synthesize, slip.clone());
-    let found = [&other[..], &record].concat();
-    vec![
-        Call { operation, fill: 0xa5, number: 0, lengths, l: 0, payload },
-        serving(1, &[]),
-        serving(1, &found),
-        serving(257, &found),
-        serving(1, &bad),
-    ]
 }
 
 /// The bytes that make a record bad: 25, 6, 26, a test that says no, and the last cell of b.
 pub const BAD: [(usize, u8); 6] = [(260, 129), (522, 9), (262, 2), (268, 2), (774, 1), (775, 1)];
 
-/// 128 terms modulo 65,535 as b, with a = 1: a good record that has few zeros, and none in the
+/// 128 terms modulo 4,095 as b, with a = 1: a good record that has few zeros, and none in the
 /// last cell of b.
 fn full_record(number: u16) -> Vec<u8> {
-    let terms = [0xfe0d; TERMS_LIMIT];
-    let mut record = record_with(&slip_of(65535, &terms), &trivial(&terms));
+    let terms = [0x0e0d; TERMS_LIMIT];
+    let mut record = record_with(&slip_of(4095, &terms), &trivial(&terms));
     set_number(&mut record, number);
     record
 }

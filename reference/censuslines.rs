@@ -12,7 +12,7 @@ const HEADER: &str = "modulus count tally\n";
 const ENDED: &str = "not a modulus and a count\n";
 
 /// What is typed, and the text after the header. A line of another form ends it.
-const INPUTS: [(&str, &str); 41] = [
+const INPUTS: [(&str, &str); 32] = [
     ("", ""),
     ("2 3", "2 3 1,2,4,1\n"),
     ("2 3\n", "2 3 1,2,4,1\n"),
@@ -21,10 +21,6 @@ const INPUTS: [(&str, &str); 41] = [
     ("2 0\n", "2 0 1\n"),
     ("4095 0\n", "4095 0 1\n"),
     ("4095 1\n", "4095 1 1,4094\n"),
-    ("4096 0\n", "4096 0 1\n"),
-    ("4096 1\n", "4096 1 1,4095\n"),
-    ("32768 0\n", "32768 0 1\n"),
-    ("65535 0\n", "65535 0 1\n"),
     ("2 12\n", "2 12 1,2,8,32,128,512,2048,1024,256,64,16,4,1\n"),
     ("64 2\n", "64 2 1,2730,1365\n"),
     // Zeros before a number, also many of them, and a number 0.
@@ -34,8 +30,7 @@ const INPUTS: [(&str, &str); 41] = [
     ("0 0\n", "refused 1\n"),
     ("000 00\n", "refused 1\n"),
     ("1 3\n", "refused 1\n"),
-    ("65536 0\n", "refused 1\n"),
-    ("65537 1\n", "refused 1\n"),
+    ("4096 0\n", "refused 1\n"),
     ("65538 3\n", "refused 1\n"),
     ("4294967295 0\n", "refused 1\n"),
     ("4294967295 4294967295\n", "refused 1\n"),
@@ -48,10 +43,6 @@ const INPUTS: [(&str, &str); 41] = [
     ("2 128\n", "refused 33\n"),
     ("65 2\n", "refused 33\n"),
     ("4095 2\n", "refused 33\n"),
-    ("4097 1\n", "refused 33\n"),
-    ("65535 1\n", "refused 33\n"),
-    ("65535 2\n", "refused 33\n"),
-    ("65535 128\n", "refused 33\n"),
     // A refusal does not end it.
     ("1 1\n2 129\n65 2\n3 1\n", "refused 1\nrefused 2\nrefused 33\n3 1 1,2\n"),
     // Nothing after the last line feed is no line.

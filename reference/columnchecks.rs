@@ -226,7 +226,7 @@ fn as_single_takings(group: &mut Group) {
         text.lines().filter(|line| !line.starts_with("push")).map(String::from).collect()
     };
     for seed in 0..16 {
-        let script = scenarios::lists(seed, 8);
+        let script = scenarios::calls(seed, 8);
         let (single, replaced) = with_single_takings(&script);
         group.check(replaced > 0, || format!("seed {seed}: no columns"));
         let same = others(replay(&script).0) == others(replay(&single).0);

@@ -107,7 +107,7 @@ pub fn bad_reading(random: &mut Random) -> Vec<u8> {
     let n = random.between(1, TERMS_LIMIT as u64 - 1) as usize;
     let mut reading = slip_of(m, &terms(random, m, n));
     let (cell, value) = match random.below(4) {
-        0 => (0, random.pick(&[0, 1])),
+        0 => (0, random.pick(&[0, 1, 4096, 65535])),
         1 => (1, random.pick(&[129, 256, 65535])),
         2 => (2 + random.place(n), not_below(random, m as u16)),
         _ => (2 + n + random.place(TERMS_LIMIT - n), random.pick(&[1, 256, 65535])),

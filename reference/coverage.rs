@@ -11,11 +11,9 @@ use crate::cases::{told, Told};
 use crate::catalogues::{catalogues, rounds};
 use crate::checks::Group;
 use crate::faults::{faults, offending, Fault};
-use crate::largemet;
 use crate::limits::*;
 use crate::linecalls::linecalls;
 use crate::listing::listing;
-use crate::mergechecks::own;
 use crate::merges;
 use crate::mergesmet;
 use crate::numbers;
@@ -86,17 +84,11 @@ pub fn met(group: &mut Group) {
     let (input, lines) = (typed(41, 1600), pairs(51, 400));
     let (text, whole) = replay(&script);
     group.check(whole, || String::from("the script is whole"));
-    let (listing, asking) = (listing(&slips), ask(&input));
-    let (listed, asked) = (named("listing", &listing), named("ask", &asking));
+    let (listed, asked) = (named("listing", &listing(&slips)), named("ask", &ask(&input)));
     let counted = named("census", &census(&lines));
     refusals_met(group, &[&text[..], &listed, &asked, &counted].concat());
     let worked = working(&sequences::slips(46, 160));
     starts_met(group, &[listed, named("working", &worked), asked].concat());
-    let texts = [(("listing", 150), &listing), (("working", 10), &worked), (("ask", 50), &asking)];
-    for (command, text) in texts {
-        largemet::lines_met(group, command, text);
-    }
-    largemet::met(group, &script, &text);
     onlymet::met(group, &script, &text, &worked);
     slips_met(group, &slips);
     claims_met(group, &script);
@@ -120,7 +112,7 @@ fn met_at_random(group: &mut Group) {
     mergesmet::met(group, &merges::rounds(16, 40000));
     periodsmet::met(group, &periods::rounds(17, 40000));
     numbersmet::met(group, &numbers::rounds(18, 40000));
-    bundlesmet::met(group, &bundles::rounds(19, 2000));
+    bundlesmet::met(group, &bundles::rounds(19, 1300));
 }
 
 /// The text with the name of its command before each line.
@@ -209,16 +201,8 @@ fn starts_met(group: &mut Group, text: &str) {
     group.check(all, || format!("kinds of orders: {tally:?}"));
 }
 
-/// What the slips must have: moduli that get 1, which are 0 and 1 alone, and those next to the
-/// limits before A13 and after it; terms out of range, alone and several, of each value, and 4.
-const KINDS_OF_SLIPS: [&str; 20] = [
-    "1, modulus 0",
-    "1, modulus 1",
-    "good, modulo 4,096",
-    "good, modulo 4,097 to 65,534",
-    "good, modulo 65,535",
-    "3, modulo 65,535",
-    "3, modulo 4,096 to 65,534",
+/// What the slips must have: terms out of range, alone and several, of each value, and 4.
+const KINDS_OF_SLIPS: [&str; 13] = [
     "one, at 127",
     "one, at the start",
     "one, at the end",
@@ -253,17 +237,10 @@ fn kinds_of_slip(slip: &[u8]) -> Vec<&'static str> {
     let last = (numbers[1] as usize).saturating_sub(1);
     let places = offending(slip);
     let Some(&place) = places.first() else {
+        let four = check_slip(slip).is_err_and(|refusal| refusal.number() == 4);
         let large = terms.iter().skip(last + 1).any(|&cell| cell >= m);
-        return match (own(slip).map(|told| told.0), m) {
-            (Some(1), 0) => vec!["1, modulus 0"],
-            (Some(1), 1) => vec!["1, modulus 1"],
-            (Some(4), _) if large => vec!["past the count alone"],
-            (Some(4), _) => vec!["another 4"],
-            (None, 4096) => vec!["good, modulo 4,096"],
-            (None, 4097..=65534) => vec!["good, modulo 4,097 to 65,534"],
-            (None, 65535) => vec!["good, modulo 65,535"],
-            _ => Vec::new(),
-        };
+        let kind = if large { "past the count alone" } else { "another 4" };
+        return if four { vec![kind] } else { Vec::new() };
     };
     let value = terms[place];
     let mut kinds = vec![kind_of_places(&places, last)];
@@ -273,11 +250,6 @@ fn kinds_of_slip(slip: &[u8]) -> Vec<&'static str> {
     }
     if value % 256 < m && m <= 256 {
         kinds.push("a low byte in range");
-    }
-    match m {
-        65535 => kinds.push("3, modulo 65,535"),
-        4096.. => kinds.push("3, modulo 4,096 to 65,534"),
-        _ => {}
     }
     kinds
 }
@@ -374,7 +346,7 @@ fn claim_of(call: &Call) -> Option<Looked> {
         }
         (Operation::Generate, [A_BYTES, B_BYTES, 0..=256]) if third.len() % 2 == 0 => {
             let m = u64::from(call.number);
-            let legal = (2..=65535).contains(&m);
+            let legal = (2..=MODULUS_LIMIT).contains(&m);
             legal.then(|| Looked { slip: None, m, a: first, b: second, l: u64::from(call.l) })
         }
         (Operation::LookUp, [SLIP_BYTES, size, RECORD_BYTES]) if size % RECORD_BYTES == 0 => {
@@ -392,7 +364,7 @@ fn claim_of(call: &Call) -> Option<Looked> {
 // ---- typed lines ----
 
 /// What the lines must be, in the script and as they are typed.
-const KINDS_OF_LINES: [&str; 43] = [
+const KINDS_OF_LINES: [&str; 39] = [
     "27, too short",
     "27, the fixed text",
     "27, the modulus",
@@ -418,14 +390,10 @@ const KINDS_OF_LINES: [&str; 43] = [
     "28, in a line above 1,000 bytes",
     "28, after the 128th term",
     "1, below 2",
-    "1, above 65,535",
-    "1, 65,536",
+    "1, above 4,095",
     "1, with more than 128 terms",
     "2, 129 terms",
     "2, more terms",
-    "read, a modulus of 4,096",
-    "read, a modulus above 4,096",
-    "read, a modulus of 65,535",
     "read, no byte after the colon",
     "read, only blanks",
     "read, 127 terms",
@@ -498,17 +466,13 @@ fn kinds_of_line(line: &[u8], refused: Option<Told>) -> Kinds {
         Some((28, Some(place))) => kinds_of_range(line, place),
         Some((1, _)) => vec![
             ("1, below 2", modulus_of(line) < 2),
-            ("1, above 65,535", modulus_of(line) > 65535),
-            ("1, 65,536", modulus_of(line) == 65536),
+            ("1, above 4,095", modulus_of(line) > 4095),
             ("1, with more than 128 terms", commas(line) >= 128),
         ],
         Some(_) => {
             vec![("2, 129 terms", commas(line) == 128), ("2, more terms", commas(line) > 128)]
         }
         None => vec![
-            ("read, a modulus of 4,096", modulus_of(line) == 4096),
-            ("read, a modulus above 4,096", modulus_of(line) > 4096),
-            ("read, a modulus of 65,535", modulus_of(line) == 65535),
             ("read, no byte after the colon", text.ends_with(':')),
             ("read, only blanks", text.ends_with(": ") || text.ends_with(":  ")),
             ("read, 127 terms", commas(line) == 126),
@@ -556,7 +520,7 @@ fn kinds_of_form(line: &[u8], place: usize) -> Kinds {
         ("27, then a number out of its range", rest.contains(",2147483648")),
         ("27, in a line above 1,000 bytes", line.len() > 1000),
         ("27, after the 128th term", commas(before) >= 128),
-        ("27, with a modulus that is not legal", colon && !(2..=65535).contains(&modulus_of(line))),
+        ("27, with a modulus that is not legal", colon && !(2..=4095).contains(&modulus_of(line))),
     ]
 }
 

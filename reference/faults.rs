@@ -22,7 +22,7 @@ pub fn number_at(bytes: &[u8], cell: usize) -> u64 {
 /// the modulus or the count is refused before.
 pub fn offending(slip: &[u8]) -> Vec<usize> {
     let (m, count) = (number_at(slip, 0), number_at(slip, 1));
-    if !(2..=65535).contains(&m) || count > 128 {
+    if !(2..=4095).contains(&m) || count > 128 {
         return Vec::new();
     }
     (0..128).filter(|&i| (i as u64) < count && number_at(slip, 2 + i) >= m).collect()

@@ -55,26 +55,22 @@ pub fn sheet_size(m: u64, n: usize) -> usize {
     n * prime_powers(m).iter().map(|power| power.e).sum::<usize>()
 }
 
-/// Joins the remainders that the histories give. Most cells of a report are past its length, and
-/// nothing is searched for where all remainders are 0.
+/// Joins the remainders that the histories give.
 fn joined(histories: &[History], remainder: impl Fn(&History) -> u64) -> u64 {
-    if histories.iter().all(|h| remainder(h) == 0) {
-        return 0;
-    }
-    let parts: Vec<(u64, u64)> =
+    let mut parts: Vec<(u64, u64)> =
         histories.iter().map(|h| (remainder(h), h.power.modulus())).collect();
-    chinese_remainder(parts)
+    // The largest prime power first: then the search below is short.
+    parts.sort_by(|x, y| y.1.cmp(&x.1));
+    chinese_remainder(&parts)
 }
 
 /// The one number below the product of the moduli with the given remainders, for
 /// moduli prime to each other: a number right for the first ones stays so when
-/// their product is added, and that is done until the next remainder is right. The
-/// remainder at the largest modulus is the number to begin with: then the search is short.
-pub fn chinese_remainder(mut parts: Vec<(u64, u64)>) -> u64 {
-    parts.sort_by(|x, y| y.1.cmp(&x.1));
-    let mut parts = parts.into_iter();
-    let (mut number, mut product) = parts.next().unwrap_or((0, 1));
-    for (remainder, modulus) in parts {
+/// their product is added, and that is done until the next remainder is right.
+pub fn chinese_remainder(parts: &[(u64, u64)]) -> u64 {
+    let mut number = 0;
+    let mut product = 1;
+    for &(remainder, modulus) in parts {
         while number % modulus != remainder {
             number += product;
         }

@@ -1,8 +1,8 @@
-//! The limits and sizes of document 01 and of requests A7 and A10 to A13 in 02, each in one place.
+//! The limits and sizes of document 01 and of requests A7 and A10 to A12 in 02, each in one place.
 
-/// "m from 2 to 4,095": the largest legal modulus. 02, A13: "The limit becomes 65,535 in refusals
-/// 1, 21 and 30", so that two bytes hold no number above it.
-pub const MODULUS_LIMIT: u64 = 65535;
+/// "m from 2 to 4,095": the largest legal modulus. The arithmetic is wide
+/// enough for any value up to 65,535.
+pub const MODULUS_LIMIT: u64 = 4095;
 
 /// "n from 0 to 128": terms of a slip, terms of a reading, cells to run, l of a claim.
 pub const TERMS_LIMIT: usize = 128;
@@ -36,8 +36,8 @@ pub const EDITOR: u64 = 1;
 /// 02, A10: "period N = 1, 2, 4 up to 64, doubling"; "these seven".
 pub const PERIODS: [usize; 7] = [1, 2, 4, 8, 16, 32, 64];
 
-/// 02, A11: "m to the power n at most 4,096". It has nothing to do with the largest modulus; A13:
-/// "33 keeps its condition".
+/// 02, A11: "m to the power n at most 4,096". It has nothing to do with the largest modulus, and
+/// stays when that one changes.
 pub const CENSUS_LIMIT: u64 = 4096;
 
 /// 02, A11: "tallies the least lengths in 13 cells". 2 to the power 12 is 4,096, so that n is at
@@ -48,6 +48,6 @@ pub const TALLY_BYTES: usize = TALLY_CELLS * CELL_BYTES;
 /// 02, A12: "Up to 16 slips end to end".
 pub const BUNDLE_LIMIT: usize = 16;
 
-/// The step records of the longest sheet there can be: n times the sum of the e, and that sum is
-/// at most 15, because 2^16 is above 65,535. 02, A13: "a prime power may have up to 15 rows".
+/// The step records of the longest sheet there can be: n times the sum of the e, and
+/// that sum is at most 15, because 2^16 is above 65,535.
 pub const SHEET_LIMIT: usize = TERMS_LIMIT * 15;

@@ -24,8 +24,6 @@ mod donorcases;
 mod donorchecks;
 mod faults;
 mod join;
-mod largecases;
-mod largemet;
 mod limits;
 mod linear;
 mod linecalls;

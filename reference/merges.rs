@@ -6,9 +6,9 @@ use crate::limits::*;
 use crate::merge::common_multiple;
 use crate::random::Random;
 use crate::residue::prime_powers;
-use crate::scenarios::{fitted, full_sequences, plain};
+use crate::scenarios::{fitted, plain};
 use crate::script::{Call, Operation};
-use crate::sequences::{self, damage, set_cell, uniform, LARGE};
+use crate::sequences::{self, damage, set_cell, uniform};
 
 /// Two slips as they are handed in.
 pub type Slips = [Vec<u8>; 2];
@@ -45,7 +45,6 @@ pub fn merging(slips: &Slips, sizes: [usize; 3], fill: u8) -> Call {
 fn by_hand() -> Vec<(Slips, [usize; 3])> {
     let slips = [
         kinds_of_moduli(),
-        full_merges(),
         small_moduli(),
         pairs_of_terms(),
         counts(),
@@ -73,7 +72,7 @@ fn numbers(n: usize) -> Vec<u64> {
 }
 
 /// Moduli of each kind, with multiples exactly at the limit, next below and next above it.
-const MODULI: [[u64; 2]; 112] = [
+const MODULI: [[u64; 2]; 67] = [
     // Prime to each other.
     [2, 3],
     [3, 2],
@@ -87,76 +86,40 @@ const MODULI: [[u64; 2]; 112] = [
     [2, 2047],
     [2047, 2],
     [46, 89],
+    // The multiple is 4,095: prime to each other, then not.
     [63, 65],
     [65, 63],
-    [64, 65],
-    [17, 241],
-    [16, 4095],
-    [256, 255],
-    [243, 256],
-    [241, 251],
-    [32749, 2],
-    // The multiple is 65,535: prime to each other, then not.
-    [255, 257],
-    [257, 255],
-    [3, 21845],
-    [21845, 3],
-    [5, 13107],
-    [17, 3855],
-    [51, 1285],
-    [771, 85],
-    [4369, 15],
-    [255, 3855],
-    [255, 1285],
-    [771, 255],
-    [4369, 255],
-    [21845, 51],
-    [85, 13107],
-    [65535, 3],
-    [65535, 257],
-    [21845, 65535],
-    [65535, 65535],
-    // It is 65,534.
-    [2, 32767],
-    [217, 302],
-    [62, 2114],
-    [2114, 62],
-    [32767, 65534],
-    [65534, 2],
+    [5, 819],
+    [585, 7],
+    [9, 455],
+    [13, 315],
+    [91, 45],
+    [117, 35],
+    [63, 195],
+    [117, 105],
+    [585, 315],
+    [819, 455],
+    [1365, 9],
+    [9, 1365],
+    [4095, 3],
+    [1365, 4095],
+    [4095, 4095],
     // Equal.
     [2, 2],
     [12, 12],
     [2048, 2048],
     [4093, 4093],
-    [4096, 4096],
-    [32768, 32768],
-    [59049, 59049],
-    [65521, 65521],
-    [65025, 65025],
-    [30030, 30030],
-    [58081, 58081],
-    [63001, 63001],
-    [65534, 65534],
+    [4094, 4094],
     // One divides the other.
     [2, 4],
     [4, 2],
     [2048, 4],
     [4, 2048],
+    [2, 2048],
     [3, 1365],
     [2047, 4094],
+    [4094, 2],
     [60, 2520],
-    [16, 32768],
-    [32768, 16384],
-    [59049, 9],
-    [3, 59049],
-    [255, 65025],
-    [65025, 289],
-    [30030, 2310],
-    [13, 30030],
-    [241, 58081],
-    [58081, 241],
-    [251, 63001],
-    [63001, 251],
     // Neither does, and they have a common divisor.
     [12, 18],
     [18, 12],
@@ -167,34 +130,24 @@ const MODULI: [[u64; 2]; 112] = [
     [1365, 6],
     [1024, 1536],
     [46, 178],
+    // 4,097, three times 4,098, then 4,100, 4,104, 4,112 and 4,160.
+    [17, 241],
+    [2, 2049],
+    [6, 683],
+    [3, 1366],
     [50, 164],
     [216, 57],
+    [16, 257],
+    [64, 65],
+    // Far above the limit: in two bytes the next three would be 1,024, 36 and 2; the last is the
+    // largest that there is.
     [1260, 1050],
-    [4092, 18],
-    [2310, 4290],
-    [3825, 4335],
-    [12500, 15625],
-    // Three times 65,538, then 65,540, 65,544, 65,549, 65,552, 65,562 and 65,792; there are no
-    // such moduli for 65,536, 65,537 and 65,539.
-    [2, 32769],
+    [4093, 2],
+    [2, 4095],
+    [1024, 65],
+    [676, 97],
     [198, 331],
-    [18, 3641],
-    [116, 565],
-    [24, 2731],
-    [59, 1111],
-    [272, 241],
-    [14, 32781],
-    [256, 257],
-    // Far above the limit: the last is the largest that there is.
-    [65532, 18],
     [4095, 4094],
-    [65535, 2],
-    [2, 65521],
-    [32768, 59049],
-    [58081, 63001],
-    [65521, 65519],
-    [46341, 46340],
-    [65535, 65534],
 ];
 
 /// The largest joined term there is, the least ones, the moduli, then other numbers.
@@ -205,34 +158,6 @@ fn kinds_of_moduli() -> Vec<Slips> {
         same([x, y], &base[..[5, 1, 12, 2, 128, 127, 3][i % 7]])
     };
     MODULI.into_iter().enumerate().map(of).collect()
-}
-
-/// Moduli whose multiples are those that are met with 128 terms.
-const FULL: [[u64; 2]; 9] = [
-    [32768, 16],
-    [9, 59049],
-    [257, 255],
-    [65521, 65521],
-    [3825, 4335],
-    [4290, 2310],
-    [2, 2],
-    [241, 58081],
-    [63001, 251],
-];
-
-/// 128 terms that these leave, each as they are and with the last but one moved by 1 in the second
-/// slip, after which they disagree or are others.
-fn full_merges() -> Vec<Slips> {
-    let mut all = Vec::new();
-    for ([x, y], m) in FULL.into_iter().zip(LARGE) {
-        let [any, half, _] = full_sequences(m);
-        all.push(same([x, y], &half));
-        let mut slips = same([x, y], &any);
-        all.push(slips.clone());
-        set_cell(&mut slips[1], TERMS_LIMIT, ((any[TERMS_LIMIT - 2] + 1) % y) as u16);
-        all.push(slips);
-    }
-    all
 }
 
 /// All moduli from 2 to 9 with all numbers below their multiple, which is at most 72.
@@ -257,7 +182,7 @@ fn pairs_of_terms() -> Vec<Slips> {
 
 fn counts() -> Vec<Slips> {
     let counts = [0, 1, 2, 64, 126, 127, 128];
-    let moduli = [[12, 18], [255, 257], [9, 9], [32768, 4]];
+    let moduli = [[12, 18], [63, 65], [9, 9], [2048, 4]];
     moduli.into_iter().flat_map(|two| counts.map(|n| same(two, &numbers(n)))).collect()
 }
 
@@ -280,8 +205,8 @@ fn disagreements() -> Vec<Slips> {
         [6, 12],
         [12, 6],
         [8, 12],
-        [65535, 21845],
-        [65535, 65535],
+        [4095, 1365],
+        [4095, 4095],
         [1365, 6],
         [50, 30],
     ];
@@ -304,7 +229,7 @@ fn disagreements() -> Vec<Slips> {
 /// Moduli and steps: the terms stay the same modulo a part of the common divisor, so that they
 /// disagree, or modulo all of it, so that they agree, though not modulo the smaller modulus.
 fn parts_of_divisors() -> Vec<Slips> {
-    let steps: [([u64; 2], &[u64]); 12] = [
+    let steps: [([u64; 2], &[u64]); 10] = [
         ([12, 18], &[2, 3, 4, 6, 12]),
         ([18, 12], &[2, 3, 4, 6]),
         ([12, 12], &[2, 3, 4, 6]),
@@ -313,9 +238,7 @@ fn parts_of_divisors() -> Vec<Slips> {
         ([8, 12], &[2, 4, 8]),
         ([9, 27], &[3, 9]),
         ([4095, 1365], &[105, 195, 273, 455]),
-        ([65535, 21845], &[1285, 4369, 85]),
-        ([65535, 65535], &[21845, 255]),
-        ([63001, 251], &[1, 250]),
+        ([4095, 4095], &[819, 1365]),
         ([1365, 6], &[2, 3]),
     ];
     let mut all = Vec::new();
@@ -329,8 +252,8 @@ fn parts_of_divisors() -> Vec<Slips> {
 const WRONG: [&[(usize, u16)]; 13] = [
     &[(0, 0)],
     &[(0, 1)],
-    &[(0, 0), (1, 0)],
-    &[(0, 1), (2, 65535)],
+    &[(0, 4096)],
+    &[(0, 65535)],
     &[(1, 129)],
     &[(1, 256 + 5)],
     &[(1, 65535)],
@@ -393,7 +316,7 @@ fn different_counts() -> Vec<Slips> {
     let of = |n: usize, m: u64| same([m, m], &numbers(n))[0].clone();
     let mut all = Vec::new();
     for (n, other) in counts {
-        all.extend([[12, 18], [9, 9], [256, 257]].map(|[x, y]| [of(n, x), of(other, y)]));
+        all.extend([[12, 18], [9, 9], [64, 65]].map(|[x, y]| [of(n, x), of(other, y)]));
         let mut second = of(other, 18);
         if other > 0 {
             set_cell(&mut second, 2, 2);
@@ -412,13 +335,13 @@ pub const FAULTS: usize = 11;
 /// that comes before it.
 pub fn faulty(set: u32) -> Slips {
     let has = |fault: usize| set >> fault & 1 == 1;
-    // With 18 both moduli have the common divisor 6; the multiple of 65,532 is 196,596.
-    let modulus = if has(9) { 65532 } else { 12 };
+    // With 18 both moduli have the common divisor 6; the multiple of 4,092 is 12,276.
+    let modulus = if has(9) { 4092 } else { 12 };
     let mut slips = same([modulus, 18], &[6, 3, 1, 5, 12]);
     let cells: [(usize, usize, &[(usize, u16)]); 10] = [
         (8, 1, &[(1, 6)]),
         (10, 1, &[(3, 4), (4, 2)]),
-        (0, 0, &[(0, 0)]),
+        (0, 0, &[(0, 4096)]),
         (1, 0, &[(1, 129)]),
         (2, 0, &[(4, 65535), (6, 65535)]),
         (3, 0, &[(129, 1)]),
@@ -547,10 +470,7 @@ fn multiple(random: &mut Random) -> u64 {
         0..=1 => MODULUS_LIMIT,
         2..=3 => random.between(MODULUS_LIMIT - 15, MODULUS_LIMIT),
         4..=5 => random.between(MODULUS_LIMIT + 1, MODULUS_LIMIT + 25),
-        6 => {
-            let far = random.pick(&[8, 4096, MODULUS_LIMIT]);
-            random.between(MODULUS_LIMIT + 1, far * MODULUS_LIMIT)
-        }
+        6 => random.between(MODULUS_LIMIT + 1, 8 * MODULUS_LIMIT),
         7..=8 => 36,
         9..=11 => random.pick(&[12, 30, 60, 72, 180, 210, 360, 420, 720, 1260, 2310, 2520]),
         12..=13 => random.between(2, 60),

@@ -8,11 +8,12 @@ use crate::checks::Group;
 use crate::coverage::{count, often, Kinds, Tally};
 use crate::faults::offending;
 use crate::join;
-use crate::mergechecks::{common_divisor, least_multiple, own};
+use crate::merge::common_multiple;
+use crate::mergechecks::{common_divisor, own};
 use crate::script::{Call, Operation};
 
 /// What merges of slips that are good for themselves must be.
-const KINDS: [&str; 65] = [
+const KINDS: [&str; 60] = [
     "ok, prime to each other",
     "ok, equal",
     "ok, the first divides the second",
@@ -20,14 +21,12 @@ const KINDS: [&str; 65] = [
     "ok, neither divides",
     "ok, 12 and 18",
     "ok, 18 and 12",
-    "ok, 65,535",
-    "ok, 65,535, prime to each other",
-    "ok, 65,535, neither divides",
-    "ok, 65,534",
-    "ok, 65,520 to 65,533",
-    "ok, 4,096 to 65,519",
-    "ok, the product is above 65,535",
-    "ok, the product is above 2^31",
+    "ok, 4,095",
+    "ok, 4,095, prime to each other",
+    "ok, 4,095, neither divides",
+    "ok, 4,094",
+    "ok, 4,080 to 4,093",
+    "ok, the product is above 4,095",
     "ok, no terms",
     "ok, one term",
     "ok, 127 terms",
@@ -46,12 +45,10 @@ const KINDS: [&str; 65] = [
     "29, and 30",
     "29, and 31",
     "29, nothing else",
-    "30, 65,538",
-    "30, 65,539 to 65,560",
-    "30, 65,561 to 131,070",
-    "30, above 2^24",
-    "30, above 2^31",
-    "30, at most 255 in two bytes",
+    "30, 4,096 to 4,100",
+    "30, 4,101 to 4,160",
+    "30, above 65,535",
+    "30, within the limit in two bytes",
     "30, prime to each other",
     "30, neither divides",
     "30, no terms",
@@ -71,9 +68,8 @@ const KINDS: [&str; 65] = [
     "31, neither divides",
     "31, 12 and 18",
     "31, 18 and 12",
-    "31, 65,535",
-    "31, 4,096 to 65,534",
-    "31, the product is above 65,535",
+    "31, 4,095",
+    "31, the product is above 4,095",
     "31, the same modulo a part of the divisor",
     "31, one term",
     "31, 127 terms",
@@ -232,7 +228,7 @@ impl Two {
 
     /// Neither modulus gets 1, so that there are a multiple and a divisor.
     fn legal(&self) -> bool {
-        [self.x, self.y].iter().all(|m| (2..=65535).contains(m))
+        [self.x, self.y].iter().all(|m| (2..=4095).contains(m))
     }
 
     fn counts_differ(&self) -> bool {
@@ -240,7 +236,7 @@ impl Two {
     }
 
     fn multiple(&self) -> u64 {
-        least_multiple(self.x, self.y)
+        common_multiple(self.x, self.y)
     }
 
     fn divisor(&self) -> u64 {
@@ -248,7 +244,7 @@ impl Two {
     }
 
     fn is_above(&self) -> bool {
-        self.legal() && self.multiple() > 65535
+        self.legal() && self.multiple() > 4095
     }
 
     /// How many terms both have.
@@ -306,14 +302,12 @@ fn kinds_of_joined(two: &Two, terms: &[u64]) -> Kinds {
         ("ok, neither divides", two.neither_divides()),
         ("ok, 12 and 18", (x, y) == (12, 18)),
         ("ok, 18 and 12", (x, y) == (18, 12)),
-        ("ok, 65,535", multiple == 65535),
-        ("ok, 65,535, prime to each other", multiple == 65535 && prime),
-        ("ok, 65,535, neither divides", multiple == 65535 && two.neither_divides()),
-        ("ok, 65,534", multiple == 65534),
-        ("ok, 65,520 to 65,533", (65520..65534).contains(&multiple)),
-        ("ok, 4,096 to 65,519", (4096..65520).contains(&multiple)),
-        ("ok, the product is above 65,535", x * y > 65535),
-        ("ok, the product is above 2^31", x * y > 1 << 31),
+        ("ok, 4,095", multiple == 4095),
+        ("ok, 4,095, prime to each other", multiple == 4095 && prime),
+        ("ok, 4,095, neither divides", multiple == 4095 && two.neither_divides()),
+        ("ok, 4,094", multiple == 4094),
+        ("ok, 4,080 to 4,093", (4080..4094).contains(&multiple)),
+        ("ok, the product is above 4,095", x * y > 4095),
         ("ok, no terms", n == 0),
         ("ok, one term", n == 1),
         ("ok, 127 terms", n == 127),
@@ -360,13 +354,10 @@ fn kinds_of_multiple(two: &Two) -> Kinds {
     let (multiple, n) = (two.multiple(), two.shared());
     let disagree = !two.disagreeing().is_empty();
     vec![
-        // 65,536 is no multiple of two moduli up to 65,535, and 65,537 is a prime.
-        ("30, 65,538", multiple == 65538),
-        ("30, 65,539 to 65,560", (65539..=65560).contains(&multiple)),
-        ("30, 65,561 to 131,070", (65561..=131_070).contains(&multiple)),
-        ("30, above 2^24", multiple > 1 << 24),
-        ("30, above 2^31", multiple > 1 << 31),
-        ("30, at most 255 in two bytes", multiple % 65536 <= 255),
+        ("30, 4,096 to 4,100", multiple <= 4100),
+        ("30, 4,101 to 4,160", multiple > 4100 && multiple <= 4160),
+        ("30, above 65,535", multiple > 65535),
+        ("30, within the limit in two bytes", (2..=4095).contains(&(multiple % 65536))),
         ("30, prime to each other", two.divisor() == 1),
         ("30, neither divides", two.neither_divides()),
         ("30, no terms", n == 0),
@@ -395,9 +386,8 @@ fn kinds_of_disagreement(two: &Two, place: usize) -> Kinds {
         ("31, neither divides", two.neither_divides()),
         ("31, 12 and 18", (x, y) == (12, 18)),
         ("31, 18 and 12", (x, y) == (18, 12)),
-        ("31, 65,535", two.multiple() == 65535),
-        ("31, 4,096 to 65,534", (4096..65535).contains(&two.multiple())),
-        ("31, the product is above 65,535", x * y > 65535),
+        ("31, 4,095", two.multiple() == 4095),
+        ("31, the product is above 4,095", x * y > 4095),
         ("31, the same modulo a part of the divisor", part),
         ("31, one term", n == 1),
         ("31, 127 terms", n == 127),

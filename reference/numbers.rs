@@ -80,16 +80,11 @@ fn dictionaries() -> Vec<Call> {
     pairs.into_iter().flat_map(all).collect()
 }
 
-/// Moduli for the tallies with no term and with one: primes, prime powers, products, up to the
-/// largest with one term, which is 4,096.
-const FEW_TERMS: [u32; 25] = [
+/// Moduli for the tallies with no term and with one: primes, prime powers, products, the largest.
+const FEW_TERMS: [u32; 24] = [
     2, 3, 4, 5, 6, 7, 8, 9, 10, 12, 30, 64, 65, 97, 128, 243, 257, 360, 1024, 2048, 2310, 4093,
-    4094, 4095, 4096,
+    4094, MODULUS_LIMIT as u32,
 ];
-
-/// Moduli that have no tally but that with no term.
-const NO_TERM: [u32; 11] =
-    [4097, 4098, 8192, 30030, 32768, 58081, 59049, 63001, 65025, 65521, MODULUS_LIMIT as u32];
 
 /// The modulus and the count of every tally with two terms or more.
 pub fn longer_pairs() -> Vec<Pair> {
@@ -97,7 +92,7 @@ pub fn longer_pairs() -> Vec<Pair> {
 }
 
 fn every_tally() -> Vec<Call> {
-    let few = FEW_TERMS.into_iter().chain(NO_TERM).flat_map(|m| [(m, 0), (m, 1)]);
+    let few = FEW_TERMS.into_iter().flat_map(|m| [(m, 0), (m, 1)]);
     few.chain(longer_pairs()).map(|pair| tallying(pair, TALLY_BYTES, FILL)).collect()
 }
 
@@ -117,11 +112,10 @@ fn ends() -> Vec<Call> {
     all
 }
 
-/// Powers that are 4,096 exactly and the nearest below it with two terms and one, each with several
-/// numbers and its tally; then some that are above it, next or far.
-const EXACT: [Pair; 8] =
-    [(2, 12), (4, 6), (8, 4), (16, 3), (64, 2), (4096, 1), (63, 2), (4095, 1)];
-const ABOVE: [Pair; 21] = [
+/// Powers that are 4,096 exactly and the nearest below it with two terms and one; then some that
+/// are above it, next or far.
+const EXACT: [Pair; 7] = [(2, 12), (4, 6), (8, 4), (16, 3), (64, 2), (63, 2), (4095, 1)];
+const ABOVE: [Pair; 14] = [
     (2, 13),
     (3, 8),
     (4, 7),
@@ -136,13 +130,6 @@ const ABOVE: [Pair; 21] = [
     (4095, 2),
     (4095, 12),
     (4095, 128),
-    (4097, 1),
-    (4098, 1),
-    (65521, 1),
-    (65535, 1),
-    (65535, 2),
-    (65535, 12),
-    (65535, 128),
 ];
 
 fn exact_powers() -> Vec<Call> {
@@ -151,7 +138,6 @@ fn exact_powers() -> Vec<Call> {
         let (m, past) = (u64::from(pair.0), power(pair).unwrap_or(0));
         let numbers = [1, m - 1, m, m + 1, past - m, past - 2, past + 1, 4095, 4096, 4097];
         all.extend(each_number(pair, numbers));
-        all.push(tallying(pair, TALLY_BYTES, FILL));
     }
     for pair in ABOVE {
         all.extend(both(pair, 0));
@@ -182,7 +168,7 @@ const WIDE: [u64; 17] = [
 ];
 
 fn wide_numbers() -> Vec<Call> {
-    let pairs = [(2, 0), (2, 3), (3, 5), (64, 2), (2, 12), (4096, 1), (65535, 0)];
+    let pairs = [(2, 0), (2, 3), (3, 5), (64, 2), (2, 12), (4095, 1)];
     pairs.into_iter().flat_map(|pair| each_number(pair, WIDE)).collect()
 }
 
@@ -219,7 +205,7 @@ const COUNTS: [u32; 27] = [
 ];
 
 /// Powers that would be within the limit if they were cut to 16, 32 or 64 bits.
-const CUT: [Pair; 16] = [
+const CUT: [Pair; 12] = [
     (3, 46),
     (5, 10),
     (6, 12),
@@ -232,31 +218,25 @@ const CUT: [Pair; 16] = [
     (2048, 6),
     (6, 64),
     (1024, 13),
-    (4096, 2),
-    (32768, 3),
-    (32768, 128),
-    (65535, 2),
 ];
 
 fn counts() -> Vec<Call> {
-    let counted = [2, 3, 4, 256, 4096, 65535].into_iter().flat_map(|m| COUNTS.map(|n| (m, n)));
+    let counted = [2, 3, 4, 256, 4095].into_iter().flat_map(|m| COUNTS.map(|n| (m, n)));
     counted.chain(CUT).flat_map(|pair| both(pair, 0)).collect()
 }
 
 /// Moduli within their limit and not. Cut to 8 or 16 bits, or less a sign, many would pass.
-const MODULI: [u32; 19] = [
+const MODULI: [u32; 17] = [
     0,
     1,
     2,
     3,
     256,
-    4095,
-    4096,
-    4097,
-    65_534,
+    MODULUS_LIMIT as u32,
+    MODULUS_LIMIT as u32 + 1,
+    MODULUS_LIMIT as u32 + 2,
     65_535,
     65_536,
-    65_536 + 1,
     65_536 + 2,
     65_536 + 9,
     1 << 24,
@@ -360,9 +340,8 @@ pub fn any_pair(random: &mut Random) -> Pair {
     let n = random.pick(&[0, 1, 1, 2, 2, 2, 3, 3, 3, 4, 4, 5, 5, 6, 6, 7, 8, 9, 10, 11, 12]);
     let most = u64::from(largest(n));
     let m = match (n, random.below(8)) {
-        (0, 1..=2) => sequences::modulus(random),
-        (0, 3..=4) => u64::from(random.pick(&NO_TERM)),
         (0..=1, 0) => random.between(2, most),
+        (0..=1, 1) => sequences::modulus(random),
         (0..=1, _) => u64::from(random.pick(&FEW_TERMS)),
         (_, 0) => most,
         (_, 1..=2) => random.between(2, most.min(9)),
@@ -442,14 +421,10 @@ fn above(random: &mut Random) -> Pair {
     let limit = MODULUS_LIMIT as u32;
     let any = random.between(u64::from(largest(n)) + 1, MODULUS_LIMIT) as u32;
     let longer = random.between(13, 128) as u32;
-    let top = random.pick(&[9, 4095, MODULUS_LIMIT]);
-    let m = random.between(2, top) as u32;
+    let m = random.between(2, MODULUS_LIMIT) as u32;
     let longest = |m: u32| (0..).find(|&n| power((m, n + 1)).is_none()).unwrap_or(0);
-    match random.below(9) {
+    match random.below(7) {
         0..=1 => (largest(n) + 1, n),
-        // With one term the power is the modulus.
-        7 => (random.between(CENSUS_LIMIT + 1, MODULUS_LIMIT) as u32, 1),
-        8 => (random.pick(&[4097, 4098, 32768, 65521, limit]), 1),
         2 => (m, longest(m) + 1),
         3 => (any, n),
         4 => (m, longer),

@@ -3,7 +3,7 @@
 
 use crate::ask::ask;
 use crate::calls::*;
-use crate::cases::{bytes_of, check_replayed, reading_of, LENT};
+use crate::cases::{bytes_of, reading_of, LENT};
 use crate::checks::Group;
 use crate::coverage::{count, Tally};
 use crate::join;
@@ -15,7 +15,6 @@ use crate::random::Random;
 use crate::refusals::Refusal;
 use crate::residue::{inverse, prime_powers, PrimePower};
 use crate::script::{hash, record_bytes, replay, Call, Operation};
-use crate::selftest::products;
 use crate::sequences;
 use crate::starts::kind_of_modulus;
 use crate::steps::StepRecord;
@@ -143,7 +142,7 @@ fn check_counted(group: &mut Group, tally: &mut Counted, m: u64, terms: &[u64]) 
 
 // ---- ranks ----
 
-const PRIMES: [u64; 10] = [2, 3, 5, 7, 61, 251, 257, 4093, 32749, 65521];
+const PRIMES: [u64; 10] = [2, 3, 5, 7, 61, 257, 1021, 2053, 4091, 4093];
 
 /// Long sequences modulo primes: l coefficients that are to solve equations of rank r can be
 /// chosen in m to the power l-r ways, if at all.
@@ -154,10 +153,9 @@ pub fn by_rank(group: &mut Group) {
     for round in 0..4000 {
         let m = random.pick(&PRIMES);
         let n = if round % 10 == 0 { 120 + random.place(9) } else { random.place(41) };
-        let terms = match random.below(4) {
+        let terms = match random.below(3) {
             0 => sequences::uniform(&mut random, m, n),
             1 => half_as_long(&mut random, m, n),
-            2 => late_start(&mut random, m, n),
             _ => sequences::terms(&mut random, m, n),
         };
         let l = join::register(m, &terms).length;
@@ -191,12 +189,6 @@ fn side(n: usize, l: usize) -> &'static str {
 fn half_as_long(random: &mut Random, m: u64, n: usize) -> Vec<u64> {
     let length = (n + random.place(3)) / 2;
     outputs(m, &sequences::register(random, m, length), n)
-}
-
-/// Zeros up to some place from the middle on, then any terms.
-fn late_start(random: &mut Random, m: u64, n: usize) -> Vec<u64> {
-    let zeros = n / 2 + random.place(n / 2 + 1);
-    [vec![0; zeros], sequences::uniform(random, m, n - zeros)].concat()
 }
 
 fn check_ranked(group: &mut Group, m: u64, terms: &[u64], l: usize) {
@@ -241,7 +233,13 @@ const NEAR: [(usize, usize); 9] =
 
 /// Told for a modulus from 2 on that is no product of two numbers from 2 on, and for no other.
 pub fn every_modulus(group: &mut Group) {
-    for (m, product) in products().into_iter().enumerate().skip(2) {
+    let mut product = vec![false; 65536];
+    for x in 2..256 {
+        for y in x..=65535 / x {
+            product[x * y] = true;
+        }
+    }
+    for (m, product) in product.into_iter().enumerate().skip(2) {
         let m = m as u64;
         let word = |n: usize, l: usize| match (product, 2 * l <= n) {
             (true, _) => "not told",
@@ -252,8 +250,10 @@ pub fn every_modulus(group: &mut Group) {
             let found = only(m, n, l).to_string();
             group.check(found == word(n, l), || format!("modulo {m}, {n}, {l}: {found}"));
         }
-        check_told(group, m, &[1], 1, word(1, 1));
-        check_told(group, m, &[m - 1, 1], 1, word(2, 1));
+        if m <= MODULUS_LIMIT {
+            check_told(group, m, &[1], 1, word(1, 1));
+            check_told(group, m, &[m - 1, 1], 1, word(2, 1));
+        }
     }
 }
 
@@ -262,7 +262,7 @@ pub fn every_modulus(group: &mut Group) {
 /// Modulus, terms, their length, the answer, and how many lists there are.
 type ByHand<'a> = (u64, &'a [u64], usize, &'a str, usize);
 
-const BY_HAND: [ByHand; 66] = [
+const BY_HAND: [ByHand; 49] = [
     // "3,0 modulo 9 has l = 1 and three registers, with a_1 0, 3 or 6."
     (9, &[3, 0], 1, "not told", 3),
     // The cases of 01 that name a register.
@@ -285,9 +285,6 @@ const BY_HAND: [ByHand; 66] = [
     (9, &[0, 0, 0], 0, "not told", 1),
     (6, &[], 0, "not told", 1),
     (4095, &[0; 128], 0, "not told", 1),
-    (65521, &[], 0, "sole", 1),
-    (65521, &[0; 128], 0, "sole", 1),
-    (65535, &[0; 128], 0, "not told", 1),
     // Modulo 2: 2l is n+1, n twice, n+2, n+1, n, then 2 and 126 below n.
     (2, &[1], 1, "several", 2),
     (2, &[1, 1], 1, "sole", 1),
@@ -306,28 +303,14 @@ const BY_HAND: [ByHand; 66] = [
     (7, &[1, 1, 2, 3, 6], 3, "several", 7),
     (3, &[0, 0, 0, 0, 1], 5, "several", 243),
     (5, &[0, 1, 0], 2, "several", 5),
-    // Large primes, large moduli and others; 65,521 is the largest prime up to 65,535.
+    // The largest prime, the largest modulus and others.
     (4093, &[1], 1, "several", 4093),
     (4093, &[4092, 1], 1, "sole", 1),
     (4091, &[1, 4090, 1], 1, "sole", 1),
     (4095, &[1], 1, "not told", 4095),
     (4095, &[1, 4094], 1, "not told", 1),
     (4095, &[1365, 0], 1, "not told", 1365),
-    (65521, &[1], 1, "several", 65521),
-    (65521, &[65520, 1], 1, "sole", 1),
-    (65519, &[1, 65518, 1], 1, "sole", 1),
-    (65535, &[1], 1, "not told", 65535),
-    (65535, &[1, 65534], 1, "not told", 1),
-    (65535, &[21845, 0], 1, "not told", 21845),
-    (32768, &[16384, 0], 1, "not told", 16384),
-    (4096, &[1], 1, "not told", 4096),
-    // 61 times 67; 241 times 251; squares of primes.
-    (60491, &[1, 2], 1, "not told", 1),
-    (60491, &[251, 0], 1, "not told", 251),
-    (58081, &[1, 2], 1, "not told", 1),
-    (58081, &[241, 0], 1, "not told", 241),
-    (63001, &[1], 1, "not told", 63001),
-    (63001, &[251, 0], 1, "not told", 251),
+    // 61 times 67; squares of primes.
     (4087, &[1, 2], 1, "not told", 1),
     (4087, &[61, 0], 1, "not told", 61),
     (3721, &[1, 2], 1, "not told", 1),
@@ -352,9 +335,7 @@ pub fn by_hand(group: &mut Group) {
     // 1 at place 127 alone: every list of 128 coefficients.
     let mut late = [0; TERMS_LIMIT];
     late[TERMS_LIMIT - 1] = 1;
-    let told = [(2, "several"), (4093, "several"), (65521, "several")];
-    let not_told = [4095, 2048, 32768, 65535, 58081, 63001].map(|m| (m, "not told"));
-    for (m, word) in told.into_iter().chain(not_told) {
+    for (m, word) in [(2, "several"), (4093, "several"), (4095, "not told"), (2048, "not told")] {
         check_told(group, m, &late, 128, word);
         check_texts(group, m, &late, 128, word);
     }
@@ -401,17 +382,8 @@ fn call(operation: Operation, number: u32, [first, second]: [usize; 2]) -> Call 
 }
 
 /// What the text below has in it; the third and the sixth are refused.
-const WORKED: [(u64, &[u64]); 9] = [
-    (9, &[3, 0]),
-    (2, &[1, 1]),
-    (1, &[]),
-    (2, &[0, 1]),
-    (7, &[]),
-    (7, &[7]),
-    (4093, &[1]),
-    (65521, &[1]),
-    (63001, &[1]),
-];
+const WORKED: [(u64, &[u64]); 7] =
+    [(9, &[3, 0]), (2, &[1, 1]), (1, &[]), (2, &[0, 1]), (7, &[]), (7, &[7]), (4093, &[1])];
 
 const WORKING: &str = "modulus count order start register
 9 2 0 1 1
@@ -440,15 +412,6 @@ refused 3 at 0
 several
 power k row length u theta g case
 4093 0 0 0 0 1 0 2
-65521 1 0 1 1
-several
-power k row length u theta g case
-65521 0 0 0 0 1 0 2
-63001 1 0 1 1
-not told
-power k row length u theta g case
-63001 0 0 0 0 1 1 2
-63001 0 1 0 1 1 0 2
 ";
 
 /// 1,1 modulo 2, term by term, then 3,0 modulo 9, with reports and tracings between the terms;
@@ -495,5 +458,11 @@ fn told_script() -> Vec<(Call, String)> {
 }
 
 fn replayed(group: &mut Group) {
-    check_replayed(group, &told_script());
+    let script = told_script();
+    let bytes: Vec<u8> = script.iter().flat_map(|(call, _)| call.bytes()).collect();
+    let (text, whole) = replay(&bytes);
+    group.check(whole && text.lines().count() == script.len(), || text.clone());
+    for (line, (_, expected)) in text.lines().zip(&script) {
+        group.check(line == expected, || format!("{line} for {expected}"));
+    }
 }

@@ -84,7 +84,7 @@ fn in_set(order: &[Told], set: u32, number: u32) -> bool {
 /// last one nor the count is the place.
 fn faulty_slip(with: With) -> Vec<u8> {
     let mut slip = slip_of(9, &[6, 3, 1, 5, 6]);
-    let faults = [(1, 0, 1), (2, 1, 129), (3, 4, 9), (3, 6, 65535), (4, 129, 9)];
+    let faults = [(1, 0, 4096), (2, 1, 129), (3, 4, 9), (3, 6, 65535), (4, 129, 9)];
     for (number, cell, value) in faults {
         if with(number) {
             set_cell(&mut slip, cell, value);
@@ -127,7 +127,7 @@ fn orders_of_running(group: &mut Group) {
         every_set(group, "running", &order, |with| {
             let (a, b, l) = faulty_claim(with);
             let less = |buffer: usize| usize::from(with(5) && buffer == short);
-            let (m, size) = (if with(1) { 65536 } else { 9 }, if with(2) { 258 } else { 10 });
+            let (m, size) = (if with(1) { 4096 } else { 9 }, if with(2) { 258 } else { 10 });
             let mut cells = vec![7; size - less(2)];
             let outcome = generate(m, &a[less(0)..], &b[less(1)..], l, &mut cells);
             kept(outcome, cells.iter().all(|&byte| byte == 7))
@@ -193,7 +193,7 @@ fn orders_of_taking(group: &mut Group) {
         let outcome = push(&mut reading, if with(3) { 9 } else { 0 });
         kept(outcome, reading == before)
     });
-    every_set(group, "opening", &[bare(1)], |with| open(if with(1) { 65536 } else { 65535 }).1);
+    every_set(group, "opening", &[bare(1)], |with| open(if with(1) { 4096 } else { 4095 }).1);
 }
 
 fn orders_of_reports(group: &mut Group) {
@@ -235,9 +235,9 @@ fn orders_of_listing(group: &mut Group) {
 fn orders_of_lines(group: &mut Group) {
     for breaks_first in [true, false] {
         let by_place = if breaks_first {
-            [(27, Some(272)), (28, Some(283))]
+            [(27, Some(271)), (28, Some(282))]
         } else {
-            [(28, Some(279)), (27, Some(283))]
+            [(28, Some(278)), (27, Some(282))]
         };
         let order = [&[bare(5)][..], &by_place, &[bare(1), bare(2)]].concat();
         every_set(group, "reading a line", &order, |with| {
@@ -252,7 +252,7 @@ fn orders_of_lines(group: &mut Group) {
 /// A line with 130 terms or with blanks in their place, then a blank inside a term and a
 /// term out of range, or the other way round. No fault moves another.
 fn faulty_line(with: With, breaks_first: bool) -> String {
-    let modulus = if with(1) { "65536" } else { "00009" };
+    let modulus = if with(1) { "4096" } else { "0009" };
     let terms = if with(2) { "1,".repeat(130) } else { " ".repeat(260) };
     let broken = if with(27) { "1 1" } else { "1,1" };
     let passing = if with(28) { "2147483648" } else { "2147483647" };
@@ -338,7 +338,7 @@ const OF_CENSUS: [Told; 4] = [bare(5), bare(1), bare(2), bare(33)];
 /// Moduli, counts and changes of a buffer's size that are wrong.
 fn wrong_for_census() -> Vec<(u32, u32, [usize; 2])> {
     let mut all = Vec::new();
-    for m in [0, 1, 65536, 65538, u32::MAX] {
+    for m in [0, 1, 4096, 65538, u32::MAX] {
         for n in [129, 256, 65539, u32::MAX] {
             all.extend([[1, 0], [0, 1], [13, 0]].map(|change| (m, n, change)));
         }
@@ -367,7 +367,7 @@ fn orders_of_numbers(group: &mut Group) {
 /// 33 is for the power alone.
 fn orders_of_tallies(group: &mut Group) {
     for (wrong, count, [less, more]) in wrong_for_census() {
-        for (modulus, power) in [(2, 13), (65, 2), (4097, 1), (65535, 1), (65535, 128)] {
+        for (modulus, power) in [(2, 13), (65, 2), (4095, 128)] {
             every_set(group, "a tally", &OF_CENSUS, |with| {
                 let (m, n) = if with(33) { (modulus, power) } else { (2, 3) };
                 let m = if with(1) { wrong } else { m };
@@ -472,7 +472,7 @@ fn numbers_and_words(group: &mut Group) {
 /// 6,3 modulo 9 with some cells of the slip changed.
 fn wrong_slips(group: &mut Group) {
     let faulty: [(&[(usize, u16)], Told); 16] = [
-        (&[(0, 1), (1, 129), (2, 65535)], bare(1)),
+        (&[(0, 4096), (1, 129), (2, 65535)], bare(1)),
         (&[(0, 0), (129, 1)], bare(1)),
         (&[(0, 1)], bare(1)),
         (&[(1, 129), (2, 9), (129, 1)], bare(2)),
@@ -511,7 +511,7 @@ fn check_wrong_slip(group: &mut Group, slip: &[u8], told_for_it: Told, words: im
     }
     let testing = told(verify(slip, &[0; A_BYTES], &[0; B_BYTES], 200)).err();
     group.check(testing == expected, || format!("testing {}: {testing:?}", words()));
-    let (empty, zeros) = (slip_of(65521, &[]), [0; SLIP_BYTES]);
+    let (empty, zeros) = (slip_of(4093, &[]), [0; SLIP_BYTES]);
     for (first, second) in [(slip, slip), (slip, &zeros[..]), (&empty[..], slip)] {
         let merging = told(merge(first, second, &mut record[..SLIP_BYTES])).err();
         group.check(merging == expected, || format!("merging {}: {merging:?}", words()));
@@ -529,12 +529,12 @@ fn check_wrong_slip(group: &mut Group, slip: &[u8], told_for_it: Told, words: im
 /// none if the numbers or the bytes of the parts are others than those of two records made and a
 /// slip refused.
 fn replies_around(slip: &[u8]) -> Vec<u64> {
-    let empty = slip_of(65521, &[]);
+    let empty = slip_of(4093, &[]);
     let shelf = [slip, &[0; RECORD_BYTES - SLIP_BYTES]].concat();
     let (mut records, mut replies) = ([5; 3 * RECORD_BYTES], [5; 3]);
     let slips = [&empty[..], slip, &empty].concat();
     let counts = look_up_batch(&slips, &shelf, 1, &mut records, &mut replies);
-    let made = record_with(&empty, &join::register(65521, &[]));
+    let made = record_with(&empty, &join::register(4093, &[]));
     let parts = [&made[..], &[0; RECORD_BYTES], &made].concat();
     let right = counts == Ok(Counts { found: 0, made: 2, refused: 1 }) && records[..] == parts;
     if right {
@@ -612,7 +612,7 @@ fn hashed(reading: &Reading) -> String {
 pub fn unsound() -> Vec<Reading> {
     let good = reading_of(9, &[6, 3]);
     let mut forged = vec![zero_reading(); 6];
-    forged[1] = Reading { modulus: 1, ..good.clone() };
+    forged[1] = Reading { modulus: 4096, ..good.clone() };
     forged[2] = Reading { count: 129, ..good.clone() };
     forged[3] = Reading { count: 1, ..good.clone() };
     forged[4].modulus = 1;
@@ -663,17 +663,6 @@ fn short_sheets(group: &mut Group) {
         (full.clone(), a, b, 128 * 11, Ok((1, NotTold))),
         (full.clone(), a, b, 128 * 11 - 1, Err(bare(5))),
     ];
-    // 02, A13: "a prime power may have up to 15 rows"; six primes; the squares of the last two.
-    for (m, rows) in [(32768, 15), (59049, 10), (30030, 6), (65025, 6), (58081, 2), (63001, 2)] {
-        let ones = reading_of(m, &[1; TERMS_LIMIT]);
-        orders.push((ones.clone(), a, b, 128 * rows, Ok((1, NotTold))));
-        orders.push((ones.clone(), a, b, 128 * rows + 1, Ok((1, NotTold))));
-        orders.push((ones.clone(), a, b, 128 * rows - 1, Err(bare(5))));
-        orders.push((ones, a, b, 0, Err(bare(5))));
-    }
-    let ones = reading_of(65521, &[1; TERMS_LIMIT]);
-    orders.push((ones.clone(), a, b, 128, Ok((1, Sole))));
-    orders.push((ones, a, b, 127, Err(bare(5))));
     for reading in unsound() {
         for room in [0, 1, 3, 4, SHEET_LIMIT] {
             orders.push((reading.clone(), a, b, room, Err(bare(21))));
@@ -765,7 +754,7 @@ fn bad_claims(group: &mut Group) {
 
 /// The values of a_0 next to 1 and to the modulus, and those whose low byte is 1 or 0.
 fn bad_starts(group: &mut Group) {
-    let starts: [(u64, u64, Option<u32>); 24] = [
+    let starts: [(u64, u64, Option<u32>); 16] = [
         (2, 0, Some(26)),
         (2, 1, None),
         (2, 2, Some(6)),
@@ -782,14 +771,6 @@ fn bad_starts(group: &mut Group) {
         (4095, 4094, Some(26)),
         (4095, 4095, Some(6)),
         (4095, 4096, Some(6)),
-        (4096, 4095, Some(26)),
-        (4096, 4096, Some(6)),
-        (65535, 0, Some(26)),
-        (65535, 1, None),
-        (65535, 257, Some(26)),
-        (65535, 65534, Some(26)),
-        (65535, 65535, Some(6)),
-        (65534, 65535, Some(6)),
     ];
     for (m, start, number) in starts {
         let expected = number.map_or(Ok(Verdict::Yes), |number| Err(bare(number)));
@@ -800,27 +781,21 @@ fn bad_starts(group: &mut Group) {
     }
 }
 
-/// The edges of 5, 1 and 2 where the claim would get 26; 65,545 is 9 in two bytes, and 131,071 is
-/// 65,535.
+/// The edges of 5, 1 and 2 where the claim would get 26; 65,545 is 9 in two bytes.
 fn edges_of_running(group: &mut Group) {
     let (a, b) = (bytes_of(&[0], A_CELLS), bytes_of(&[], B_CELLS));
     let mut cells = [7; 260];
-    let edges: [(u32, usize, u32); 15] = [
+    let edges: [(u32, usize, u32); 10] = [
         (0, 259, 5),
         (9, 257, 5),
         (0, 258, 1),
         (1, 0, 1),
-        (65536, 0, 1),
-        (65537, 0, 1),
+        (4096, 0, 1),
         (65545, 0, 1),
-        (131071, 0, 1),
         (9, 258, 2),
         (9, 256, 26),
         (9, 0, 26),
         (4095, 256, 26),
-        (4096, 256, 26),
-        (65534, 256, 26),
-        (65535, 256, 26),
     ];
     for (m, size, number) in edges {
         let outcome = told(generate(m, &a, &b, 0, &mut cells[..size]));

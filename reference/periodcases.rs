@@ -2,7 +2,7 @@
 //! by hand or are known from elsewhere, every size, every value and every place.
 
 use crate::calls::period_length;
-use crate::cases::{bare, bytes_of, check_replayed, term_at, told, Told};
+use crate::cases::{bare, bytes_of, term_at, told, Told};
 use crate::checks::Group;
 use crate::coverage::{count, Tally};
 use crate::periods::{asking, digits_of, ones_at, WRONG};
@@ -341,7 +341,12 @@ fn script() -> Vec<(Call, &'static str)> {
 /// The lines one by one, the bytes of a call, and a script that is cut inside the cells.
 fn replayed(group: &mut Group) {
     let script = script();
-    check_replayed(group, &script);
+    let bytes: Vec<u8> = script.iter().flat_map(|(call, _)| call.bytes()).collect();
+    let (text, whole) = replay(&bytes);
+    group.check(whole && text.lines().count() == script.len(), || text.clone());
+    for (line, (_, expected)) in text.lines().zip(&script) {
+        group.check(line == *expected, || format!("{line} for {expected}"));
+    }
     let (call, line) = &script[2];
     let header = [13, 0xee, 0, 0, 0, 0, 0, 0, 16, 0, 0, 0, 0, 0, 0, 0];
     let cells = [1, 0, 0, 0, 0, 0, 1, 0, 1, 0, 0, 0, 1, 0, 0, 0];

@@ -1,4 +1,4 @@
-//! The refusals of 01 and of 02 as far as A13, with their numbers and the place that
+//! The refusals of 01 and of 02 as far as A12, with their numbers and the place that
 //! a 3, a 27, a 28 or a 31 carries.
 
 use std::fmt;
@@ -8,8 +8,7 @@ use std::fmt;
 /// one.
 #[derive(Clone, Copy, PartialEq, Eq, Debug)]
 pub enum Refusal {
-    /// 1: "the modulus is below 2 or above 4,095"; 02, A13: "The limit becomes 65,535 in refusals
-    /// 1, 21 and 30".
+    /// 1: "the modulus is below 2 or above 4,095".
     Modulus,
     /// 2: "the count of terms, or of cells to run, is above 128".
     TooMany,
@@ -45,14 +44,13 @@ pub enum Refusal {
     LineRange(usize),
     /// 29: "the counts differ".
     Counts,
-    /// 30: "the multiple is above the modulus limit", which is 65,535.
+    /// 30: "the multiple is above the modulus limit".
     Multiple,
     /// 31: "two terms disagree modulo the common divisor, with the first place".
     Disagreement(usize),
     /// 32: "the period is none of these seven".
     Period,
-    /// 33: "the power is above 4,096, or the number is not below it"; 02, A13: "33 keeps its
-    /// condition".
+    /// 33: "the power is above 4,096, or the number is not below it".
     Census,
     /// 34: "the bundle holds more than 16 slips".
     Bundle,

@@ -57,14 +57,12 @@ pub fn subtract(x: u64, y: u64, q: u64) -> u64 {
     (x + q - y) % q
 }
 
-/// The prime powers of m by trial division, primes rising. Empty for m below 2. What is left when
-/// the square of the next number is above it has no divisor but 1 and itself; up to 65,535 no
-/// prime above 251 is divided by.
+/// The prime powers of m by trial division, primes rising. Empty for m below 2.
 pub fn prime_powers(m: u64) -> Vec<PrimePower> {
     let mut found = Vec::new();
     let mut rest = m;
     let mut p = 2;
-    while p * p <= rest {
+    while rest > 1 && p <= rest {
         let mut e = 0;
         while rest % p == 0 {
             rest /= p;
@@ -74,9 +72,6 @@ pub fn prime_powers(m: u64) -> Vec<PrimePower> {
             found.push(PrimePower { p, e });
         }
         p += 1;
-    }
-    if rest > 1 {
-        found.push(PrimePower { p: rest, e: 1 });
     }
     found
 }

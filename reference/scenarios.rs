@@ -7,14 +7,12 @@ use crate::limits::*;
 use crate::random::Random;
 use crate::script::{line, Call, Operation};
 use crate::sequences::{
-    count, damage, good_slip, mixed_powers, modulus, not_below, register, set_cell, terms, uniform,
-    LARGE,
+    count, damage, good_slip, modulus, not_below, register, set_cell, terms, uniform,
 };
 
-/// Numbers that no modulus may be. Below 2^16 there are none but 0 and 1; the last ones would pass
-/// if they were cut to two bytes.
-const WILD_MODULI: [u32; 9] =
-    [0, 1, 65536, 65537, 65536 + 2, 65536 + 9, 65536 + 4096, 0x0001_ffff, u32::MAX];
+/// Numbers that no modulus, term or length may be; the last ones would pass if
+/// they were cut to two bytes.
+const WILD_MODULI: [u32; 8] = [0, 1, 4096, 65535, 65536, 65536 + 9, 0x0001_0002, u32::MAX];
 
 /// The lengths of a and b as a report must be lent them.
 const REPORT_LENGTHS: [u16; 3] = [A_BYTES as u16, B_BYTES as u16, 0];
@@ -75,56 +73,10 @@ pub fn changes_reading(operation: Operation) -> bool {
     matches!(operation, Open | Push | Forge | PushAll)
 }
 
-/// `calls SEED COUNT`: the lists by hand, then that many random ones.
-pub fn calls(seed: u64, count: u64) -> Vec<u8> {
-    [written(&full_lists()), lists(seed, count)].concat()
-}
-
-/// Three sequences of 128 terms for a modulus, the same for every seed: any terms, what a register
-/// of half their number gives, and multiples of powers of its primes.
-pub fn full_sequences(m: u64) -> [Vec<u64>; 3] {
-    let mut random = Random::new(m);
-    let half = register(&mut random, m, TERMS_LIMIT / 2);
-    [
-        uniform(&mut random, m, TERMS_LIMIT),
-        outputs(m, &half, TERMS_LIMIT),
-        mixed_powers(&mut random, m, TERMS_LIMIT),
-    ]
-}
-
-/// These for each of the moduli that are met with 128 terms: 127 of them as a column, a wrong term,
-/// the last one, one more, with reports, the profile, and sheets of several sizes.
-fn full_lists() -> Vec<Call> {
-    let call = |operation, number, lengths, payload| Call {
-        operation,
-        fill: 0xa5,
-        number,
-        lengths,
-        l: 0,
-        payload,
-    };
-    let mut calls = Vec::new();
-    for (m, planned) in LARGE.into_iter().flat_map(|m| full_sequences(m).map(|terms| (m, terms))) {
-        let bytes = cells_of(&planned[..TERMS_LIMIT - 1]);
-        let last = planned[TERMS_LIMIT - 1] as u32;
-        let needed = sheet_size(m, TERMS_LIMIT) as u32;
-        let taking = |term| call(Operation::Push, term, [0; 3], Vec::new());
-        let report = |operation, room| call(operation, room, REPORT_LENGTHS, Vec::new());
-        calls.push(call(Operation::Open, m as u32, [0; 3], Vec::new()));
-        calls.push(call(Operation::PushAll, 0, [bytes.len() as u16, 0, 0], bytes));
-        calls.push(report(Operation::Register, 0));
-        calls.extend([m as u32, last, 0].map(taking));
-        calls.push(report(Operation::Register, 0));
-        calls.push(call(Operation::Profile, 0, [PROFILE_BYTES as u16, 0, 0], Vec::new()));
-        calls.extend([needed, needed - 1, u32::MAX].map(|room| report(Operation::Trace, room)));
-    }
-    calls
-}
-
-/// That many random lists, each of which starts with an opening or a forged reading and
-/// ends with a report and a profile, mostly followed by tracings, and at times by tracings
-/// and columns of readings that are not sound.
-pub fn lists(seed: u64, lists: u64) -> Vec<u8> {
+/// `calls SEED COUNT`: that many lists, each of which starts with an opening or a
+/// forged reading and ends with a report and a profile, mostly followed by tracings, and
+/// at times by tracings and columns of readings that are not sound.
+pub fn calls(seed: u64, lists: u64) -> Vec<u8> {
     let mut random = Random::new(seed);
     let mut script = Vec::new();
     for _ in 0..lists {
@@ -284,8 +236,7 @@ fn planned_terms(random: &mut Random, m: u64) -> Vec<u64> {
     if random.once_in(8) {
         let mut planned = terms(random, m, TERMS_LIMIT);
         let more = random.between(1, 4) as usize;
-        // Two bytes have none above 65,535.
-        planned.extend(uniform(random, (m + 2).min(1 << 16), more));
+        planned.extend(uniform(random, m + 2, more));
         return planned;
     }
     terms(random, m, n)
@@ -364,38 +315,8 @@ impl Candidate {
     }
 }
 
-/// `candidates SEED COUNT`: the testings and runnings by hand, then that many random ones.
+/// `candidates SEED COUNT`: that many testings and runnings.
 pub fn candidates(seed: u64, count: u64) -> Vec<u8> {
-    [written(&full_claims()), claims(seed, count)].concat()
-}
-
-/// For each of the moduli that are met with 128 terms: the register of such terms tested and run
-/// for 128 cells, as it is, with the last coefficient changed, and with an a_0 that is the modulus
-/// or the number before it.
-fn full_claims() -> Vec<Call> {
-    let mut calls = Vec::new();
-    for (m, planned) in LARGE.into_iter().flat_map(|m| full_sequences(m).map(|terms| (m, terms))) {
-        let candidate = Candidate::of(m, &planned, &register_of(m, &planned));
-        let (last, low) = (candidate.l as usize, m as u16);
-        let other = ((planned[0] + 1) % m) as u16;
-        for (cell, value) in [(0, 1), (last, other), (0, low), (0, low - 1)] {
-            let mut a = candidate.a.clone();
-            set_cell(&mut a, cell, value);
-            let lengths = [SLIP_BYTES as u16, A_BYTES as u16, B_BYTES as u16];
-            let payload = [&candidate.slip[..], &a, &candidate.b].concat();
-            let operation = Operation::Verify;
-            calls.push(Call { operation, fill: 0xa5, number: candidate.l, lengths, l: 0, payload });
-            let lengths = [A_BYTES as u16, B_BYTES as u16, 2 * TERMS_LIMIT as u16];
-            let payload = [&a[..], &candidate.b].concat();
-            let (operation, number, l) = (Operation::Generate, m as u32, candidate.short_l());
-            calls.push(Call { operation, fill: 0xa5, number, lengths, l, payload });
-        }
-    }
-    calls
-}
-
-/// That many random testings and runnings.
-pub fn claims(seed: u64, count: u64) -> Vec<u8> {
     let mut random = Random::new(seed);
     let mut script = Vec::new();
     for _ in 0..count {

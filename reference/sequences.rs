@@ -6,44 +6,23 @@ use crate::limits::*;
 use crate::random::Random;
 use crate::residue::{prime_powers, PrimePower};
 
-const HIGH_POWERS: [u64; 25] = [
-    4, 8, 9, 16, 25, 27, 32, 49, 64, 81, 1024, 2048, 2187, 2401, 3125, 4096, 6561, 8192, 14641,
-    15625, 16384, 16807, 19683, 28561, 57121,
+const HIGH_POWERS: [u64; 15] =
+    [4, 8, 9, 16, 25, 27, 32, 49, 64, 81, 1024, 2048, 2187, 2401, 3125];
+const PRODUCTS: [u64; 18] = [
+    6, 10, 12, 18, 30, 36, 60, 72, 210, 360, 420, 900, 1260, 2310, 2520, 3600, 4080, 4095,
 ];
-const PRODUCTS: [u64; 29] = [
-    6, 10, 12, 18, 30, 36, 60, 72, 210, 360, 420, 900, 1260, 2310, 2520, 3600, 4080, 4095, 5040,
-    27720, 36864, 45045, 46080, 50625, 53130, 62500, 64260, 65520, 65534,
-];
-const EDGES: [u64; 16] = [
-    2, 3, 4, 255, 257, 2047, 4093, 4095, 4096, 4097, 32749, 32767, 65519, 65533, 65534, 65535,
-];
-
-/// Moduli that are met with 128 terms too: with the most rows, a high power of 3, the largest, the
-/// largest prime, the squares of three primes, with the most primes, the least, and the squares of
-/// the last two primes that have to be divided by (02, A13).
-pub const LARGE: [u64; 9] = [32768, 59049, 65535, 65521, 65025, 30030, 2, 58081, 63001];
+const EDGES: [u64; 8] = [2, 3, 4, 2047, 4091, 4093, 4094, 4095];
 
 /// A legal modulus, with weight on prime powers, products of several primes and
 /// small numbers.
 pub fn modulus(random: &mut Random) -> u64 {
-    match random.below(28) {
+    match random.below(20) {
         0..=4 => random.pick(&HIGH_POWERS),
         5..=6 => any_power(random),
         7..=11 => random.pick(&PRODUCTS),
-        12..=16 => random.between(2, 16),
-        17 => random.pick(&EDGES),
-        18..=22 => random.pick(&LARGE),
-        23..=24 => random.between(2, 4095),
+        12..=15 => random.between(2, 16),
+        16 => random.pick(&EDGES),
         _ => random.between(2, MODULUS_LIMIT),
-    }
-}
-
-/// One of those, another power or product, or any modulus from 4,096 on.
-pub fn large_modulus(random: &mut Random) -> u64 {
-    match random.below(3) {
-        0 => random.pick(&LARGE),
-        1 => random.pick(&[15625, 16807, 50625, 65534, 53130, 46080]),
-        _ => random.between(4096, MODULUS_LIMIT),
     }
 }
 
@@ -155,7 +134,7 @@ fn multiples(random: &mut Random, m: u64, n: usize) -> Vec<u64> {
 }
 
 /// Each term has its own power of one of the primes.
-pub fn mixed_powers(random: &mut Random, m: u64, n: usize) -> Vec<u64> {
+fn mixed_powers(random: &mut Random, m: u64, n: usize) -> Vec<u64> {
     let powers = prime_powers(m);
     let mut terms = Vec::new();
     for _ in 0..n {
@@ -194,11 +173,6 @@ fn near_miss(random: &mut Random, m: u64, n: usize) -> Vec<u64> {
     terms
 }
 
-/// A slip of 128 terms modulo one of the moduli that are met so.
-fn full_slip(random: &mut Random, m: u64) -> Vec<u8> {
-    slip_of(m, &terms(random, m, TERMS_LIMIT))
-}
-
 /// A slip that none of 1 to 4 applies to.
 pub fn good_slip(random: &mut Random) -> Vec<u8> {
     let m = modulus(random);
@@ -229,7 +203,7 @@ fn put_fault(random: &mut Random, slip: &mut [u8]) {
     let count = usize::from(u16::from_le_bytes([slip[2], slip[3]])).min(TERMS_LIMIT);
     match random.below(9) {
         0 => {
-            let wrong = random.pick(&[0, 1]);
+            let wrong = random.pick(&[0, 1, 4096, 4097, 65535]);
             set_cell(slip, 0, wrong);
         }
         1 => {
@@ -283,25 +257,13 @@ pub fn set_cell(bytes: &mut [u8], cell: usize, value: u16) {
     bytes[CELL_BYTES * cell..][..CELL_BYTES].copy_from_slice(&value.to_le_bytes());
 }
 
-/// From this many slips, or typed lines, on there is one of 128 terms modulo each of `LARGE`.
-pub const WITH_LARGE: u64 = 50;
-
-/// The modulus of the slip or line at a place that has 128 terms for sure: at 4, 9, 14 and so on.
-pub fn large_at(place: u64, count: u64) -> Option<u64> {
-    let turn = (place / 5) as usize;
-    LARGE.get(turn).copied().filter(|_| count >= WITH_LARGE && place % 5 == 4)
-}
-
 /// `slips SEED COUNT`: that many slips end to end; for one seed in four the last
 /// is cut short.
 pub fn slips(seed: u64, count: u64) -> Vec<u8> {
     let mut random = Random::new(seed);
     let mut bytes = Vec::new();
-    for place in 0..count {
-        bytes.extend(match large_at(place, count) {
-            Some(m) => full_slip(&mut random, m),
-            None => any_slip(&mut random),
-        });
+    for _ in 0..count {
+        bytes.extend(any_slip(&mut random));
     }
     if count > 0 && random.once_in(4) {
         let missing = random.between(1, SLIP_BYTES as u64 - 1) as usize;

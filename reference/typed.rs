@@ -3,7 +3,7 @@
 use crate::ask::LINE_LIMIT;
 use crate::limits::TERMS_LIMIT;
 use crate::random::Random;
-use crate::sequences::{large_at, modulus, terms, uniform};
+use crate::sequences::{modulus, terms, uniform};
 
 const DIGITS: &[u8] = b"0123456789";
 
@@ -11,11 +11,11 @@ const DIGITS: &[u8] = b"0123456789";
 const WILD_MODULI: [&str; 15] = [
     "0",
     "1",
+    "4096",
+    "4097",
     "65536",
     "65537",
     "65545",
-    "69632",
-    "131071",
     "2147483647",
     "2147483648",
     "4294967296",
@@ -152,7 +152,7 @@ fn moved(random: &mut Random, m: i64, term: i64, often: u64) -> i64 {
 
 /// Many short terms, mostly with a modulus or an end that is refused before their count.
 fn crowded(random: &mut Random, n: usize) -> Vec<u8> {
-    let modulus = random.pick(&["8", "08", "65535", "65536", "0", "2147483647"]);
+    let modulus = random.pick(&["8", "08", "4095", "4096", "0", "2147483647"]);
     let list: Vec<String> = uniform(random, 8, n).iter().map(u64::to_string).collect();
     let mut line = format!("mod {modulus}:{}", list.join(",")).into_bytes();
     if !random.once_in(3) {
@@ -185,11 +185,6 @@ pub fn stretched(random: &mut Random, size: usize) -> Vec<u8> {
         missing -= taken;
     }
     line
-}
-
-/// A line of 128 terms that make sense modulo m, and that reads well.
-fn full_line(random: &mut Random, m: u64) -> Vec<u8> {
-    with_terms(random, m, m.to_string().into_bytes(), TERMS_LIMIT)
 }
 
 // ---- damage ----
@@ -272,8 +267,8 @@ fn damage_start(random: &mut Random, line: &mut Vec<u8>) {
 /// From this many lines on there are some at the limit of what is read.
 const LINES_WITH_LONG: u64 = 50;
 
-/// `typed SEED COUNT`: that many lines with their end marks; for an odd seed the last has
-/// none. A line feed that is put into a line makes two of it.
+/// `typed SEED COUNT`: that many lines with their end marks; for one seed in two the last
+/// has none. A line feed that is put into a line makes two of it.
 pub fn typed(seed: u64, count: u64) -> Vec<u8> {
     let mut random = Random::new(seed);
     let mut input = Vec::new();
@@ -282,17 +277,13 @@ pub fn typed(seed: u64, count: u64) -> Vec<u8> {
         let long = if count >= LINES_WITH_LONG { long_line(&mut random, i) } else { None };
         let (line, mark) = long.unwrap_or_else(|| {
             let mark: &[u8] = if random.once_in(5) { b"\r\n" } else { b"\n" };
-            // Those of 128 terms leave out the places of the long ones.
-            match large_at(i.wrapping_sub(LINES_WITH_LONG), count) {
-                Some(m) => (full_line(&mut random, m), mark),
-                None => (line(&mut random), mark),
-            }
+            (line(&mut random), mark)
         });
         input.extend(line);
         unmarked = input.len();
         input.extend(mark);
     }
-    if seed % 2 == 1 {
+    if random.once_in(2) {
         input.truncate(unmarked);
     }
     input

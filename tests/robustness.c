@@ -6,8 +6,7 @@
  *       each buffer at the forbidden page, --front its start; every other call hands over NULL for its empty buffers, and the same buffer for
  *       two equal queries that are merged, and the others a number above 2^32 that ends like an editor's for a visitor.
  *       To standard error go how many records with an accession number were found for editors, and for visitors of such a number, alone and
- *       in batches; how many queries were merged with themselves in one buffer; how many queries of batches were found, made and refused; and
- *       for some moduli how many records of 128 terms were made, candidates for as many passed, and queries of as many merged.
+ *       in batches; how many queries were merged with themselves in one buffer; and how many queries of batches were found, made and refused.
  *   robustness --expand SEED COPIES
  *       writes the script on standard input again, with so many altered copies behind each of these calls.
  *
@@ -26,7 +25,6 @@ enum { VERIFY = 4, GENERATE = 5, SYNTHESIZE = 6, LOOK_UP = 7, FORGE = 8, READ_LI
 enum { ENUMERATE = 14, TALLY = 15, LOOK_UP_BATCH = 16 };
 enum { HEADER = 16, WIDEST = 65535, PAINT = 0xC3, NEAR = 1024 };
 enum { QUERY = DIVERTHRONE_QUERY_BYTES, A = DIVERTHRONE_A_BYTES, B = DIVERTHRONE_B_BYTES, RECORD = DIVERTHRONE_RECORD_BYTES };
-enum { TERMS = 128, LARGEST = 65535, SEQUENCES = 4096 };
 enum { LENGTH_AT = DIVERTHRONE_LENGTH_PLACE, A_AT = DIVERTHRONE_A_PLACE, B_AT = DIVERTHRONE_B_PLACE, NUMBER_AT = DIVERTHRONE_NUMBER_PLACE };
 
 static const char *const names[] = {"open",       "push",          "register",  "profile", "verify",       "generate",
@@ -194,27 +192,6 @@ static void count_batch(const struct call *c, const uint64_t *replies) {
     }
 }
 
-/* Powers of 2 and 3, the largest modulus and the largest prime, a product of squares, the most primes, the smallest modulus, and the squares of
- * the two largest primes whose squares are moduli. */
-static const uint32_t full_moduli[] = {32768, 59049, 65535, 65521, 65025, 30030, 2, 58081, 63001};
-enum { FULL_MODULI = sizeof full_moduli / sizeof *full_moduli };
-static unsigned long full_made[FULL_MODULI], full_passed[FULL_MODULI], full_merged[FULL_MODULI];
-
-/* What became of 128 terms modulo one of these. */
-static void count_full(const struct call *c, uint64_t reply, const uint8_t *merged) {
-    const uint8_t *query = c->op == MERGE ? merged : c->bytes[0];
-    if (reply != 0 || (c->op != MERGE && c->op != VERIFY && c->op != SYNTHESIZE && c->op != LOOK_UP)) return;
-    for (size_t i = 0; i < FULL_MODULI; i++) {
-        if (number_at(query, 2) != full_moduli[i] || number_at(query + 2, 2) != TERMS) continue;
-        if (c->op == MERGE)
-            full_merged[i]++;
-        else if (c->op == VERIFY)
-            full_passed[i]++;
-        else
-            full_made[i]++;
-    }
-}
-
 static unsigned long lent_twice;
 
 /* Two equal queries may be one buffer. */
@@ -304,7 +281,6 @@ static void make(const struct call *c) {
     lend_twice(c, given);
     uint64_t reply = enter(c, given);
     print_reply(c->op, reply);
-    count_full(c, reply, p[2]);
     if (c->op == LOOK_UP) count_found(c, reply);
     if (c->op == LOOK_UP_BATCH && diverthrone_refusal(reply) == 0) count_batch(c, numbers(p[3]));
     take_back(c, p);
@@ -316,10 +292,6 @@ static void print_counts(void) {
     fprintf(stderr, "batch_editors_found %lu\nbatch_visitors_found %lu\n", editors_found[1], visitors_found[1]);
     fprintf(stderr, "lent_twice %lu\nqueries_found %lu\nqueries_made %lu\n", lent_twice, batch_queries[255], batch_queries[0]);
     for (size_t i = 0; i < 5; i++) fprintf(stderr, "queries_%u %lu\n", refusals[i], batch_queries[refusals[i]]);
-    for (size_t i = 0; i < FULL_MODULI; i++) {
-        unsigned m = full_moduli[i];
-        fprintf(stderr, "made_%u %lu\npassed_%u %lu\nmerged_%u %lu\n", m, full_made[i], m, full_passed[i], m, full_merged[i]);
-    }
 }
 
 static int replay(struct call *c) {
@@ -475,16 +447,9 @@ static void reduce_query(uint8_t *s, uint32_t m) {
     reduce(s, 2, QUERY / 2, m);
 }
 
-/* Any modulus, one of those that must have been tried, or one that a census may have. */
-static uint32_t legal_modulus(void) {
-    uint32_t r = any();
-    const uint32_t moduli[] = {2 + r % (LARGEST - 1), 2 + r % (LARGEST - 1), full_moduli[r % FULL_MODULI], 2 + r % (SEQUENCES - 1)};
-    return pick(moduli, 4);
-}
-
 /* Another modulus, with every number brought below it: the call stays a legal one, at any modulus. Records of the same query follow. */
 static void other_modulus(struct call *c) {
-    uint32_t m = legal_modulus();
+    uint32_t m = 2 + below(4094);
     size_t records = c->op == LOOK_UP ? c->len[1] / RECORD : 0, first = c->op == GENERATE ? 0 : 1;
     for (size_t i = first; c->op <= GENERATE && i < inputs(c); i++) reduce(c->bytes[i], 0, c->len[i] / 2, m);
     if (c->op == GENERATE) c->number = m;
@@ -499,7 +464,7 @@ static void other_modulus(struct call *c) {
 }
 
 static void wild_modulus(struct call *c) {
-    uint32_t m = modulus(c), r = any(), values[] = {0, 0, 1, 1, 2, m - 1, m + 1, 4096, 65535, 65536, 65537, m + 65536, r % 65536, r};
+    uint32_t m = modulus(c), r = any(), values[] = {0, 1, 2, m - 1, m + 1, 4095, 4096, 65535, m + 65536, r % 4096, r};
     uint32_t v = pick(values, sizeof values / sizeof *values);
     if (c->op == GENERATE)
         c->number = v;
@@ -515,66 +480,6 @@ static void other_count(struct call *c) {
     set_cell(c->bytes[0], 1, v);
     if (below(2))
         for (size_t i = 2 + v; i < c->len[0] / 2; i++) set_cell(c->bytes[0], i, 0);
-}
-
-static uint32_t least_prime(uint32_t m) {
-    for (uint32_t p = 2; p * p <= m; p++)
-        if (m % p == 0) return p;
-    return m;
-}
-
-/* 128 terms with a register of length l: each from place l on is f times the one before and g times the one l places before. Where l is 128
- * they are any numbers. All have some factors p in common, most often none, so that there is much to do at a power of p. */
-struct full {
-    uint8_t query[QUERY], a[A], b[B];
-    uint32_t m, l;
-};
-
-static uint32_t product_at(const struct full *s, size_t i) {
-    uint64_t sum = 0;
-    for (size_t j = 0; j <= i; j++) sum += (uint64_t)cell(s->a, j) * cell(s->query, 2 + i - j);
-    return (uint32_t)(sum % s->m);
-}
-
-static void make_full(struct full *s, uint32_t m) {
-    uint32_t l = below(2) ? TERMS : 1 + below(70), f = below(m), g = below(m), p = least_prime(m), factor = 1;
-    for (uint32_t times = below(3) ? 0 : below(16); times > 0 && m / factor % p == 0; times--) factor *= p;
-    memset(s, 0, sizeof *s);
-    s->m = m, s->l = l;
-    set_cell(s->query, 0, m), set_cell(s->query, 1, TERMS), set_cell(s->a, 0, 1);
-    for (size_t i = 0; i < TERMS; i++) {
-        uint64_t before = i < l ? 0 : cell(s->query, 1 + i), first = i < l ? 0 : cell(s->query, 2 + i - l);
-        uint64_t term = i < l ? (uint64_t)factor * below(m) : f * before + g * first;
-        set_cell(s->query, 2 + i, (uint32_t)(term % m));
-    }
-    if (l == TERMS) f = g = 0;
-    set_cell(s->a, 1, (m - f) % m);
-    set_cell(s->a, l, (cell(s->a, l) + m - g) % m);
-    for (size_t i = 0; i < l; i++) set_cell(s->b, i, product_at(s, i));
-}
-
-/* The record of it in place of one of a catalogue, most often; the record is not always the shortest one. */
-static void shelve_full(struct call *c, const struct full *s) {
-    if (c->len[1] < RECORD || below(3) == 0) return;
-    uint8_t *record = c->bytes[1] + below(c->len[1] / RECORD) * RECORD;
-    memcpy(record, s->query, QUERY), memcpy(record + A_AT, s->a, A), memcpy(record + B_AT, s->b, B);
-    number_to(record + LENGTH_AT, s->l, 2), number_to(record + NUMBER_AT, any(), 2);
-}
-
-/* The most terms, at any modulus: a sequence and a register that passes its test, or runs. */
-static void full_length(struct call *c) {
-    static struct full s;
-    make_full(&s, legal_modulus());
-    if (c->op == GENERATE) {
-        if (c->len[0] != A || c->len[1] != B) return;
-        c->number = s.m, c->l = s.l, c->len[2] = 2 * TERMS;
-        memcpy(c->bytes[0], s.a, A), memcpy(c->bytes[1], s.b, B);
-        return;
-    }
-    if (c->len[0] != QUERY || (c->op == VERIFY && (c->len[1] != A || c->len[2] != B))) return;
-    memcpy(c->bytes[0], s.query, QUERY);
-    if (c->op == VERIFY) memcpy(c->bytes[1], s.a, A), memcpy(c->bytes[2], s.b, B), c->number = s.l;
-    if (c->op == LOOK_UP) shelve_full(c, &s);
 }
 
 /* A tested candidate becomes up to three records with its query. */
@@ -687,16 +592,15 @@ static void one_digit(struct call *c) {
 
 /* Numbers at the ends of the ranges and of types, and any others. */
 static void one_number(struct call *c) {
-    static const char *const ends[] = {"0",          "1",          "2",          "4095",       "4096",       "32768",       "59049",
-                                       "65535",      "65536",      "65538",      "131074",     "2147483646", "2147483647",  "2147483648",
-                                       "2147483649", "2147483650", "2147483657", "4294967295", "4294967296", "4294967305",  "9999999999",
-                                       "21474836470", "18446744073709551625"};
+    static const char *const ends[] = {"0",          "1",          "2",          "4095",       "4096",        "65538",
+                                       "2147483646", "2147483647", "2147483648", "2147483649", "2147483650",  "2147483657",
+                                       "4294967295", "4294967296", "4294967305", "9999999999", "21474836470", "18446744073709551625"};
     char text[48];
     size_t from = below(2) ? 4 : below(c->len[0] + 1), out = 0;
     while (from < c->len[0] && !is_digit(c->bytes[0][from])) from++;
     while (from + out < c->len[0] && is_digit(c->bytes[0][from + out])) out++;
     uint32_t r = any(), zeros = below(4) ? 0 : below(16), kind = below(3);
-    snprintf(text, sizeof text, "%0*u", (int)zeros, kind == 1 ? r % 65540 : r);
+    snprintf(text, sizeof text, "%0*u", (int)zeros, kind == 1 ? r % 4096 : r);
     if (out > 0) splice(c, from, out, kind == 0 ? ends[r % (sizeof ends / sizeof *ends)] : text);
 }
 
@@ -718,7 +622,7 @@ static void shorter(struct call *c) {
 
 /* A piece many times over: more than 128 terms, long numbers, many blanks. */
 static void longer(struct call *c) {
-    static const char *const more[] = {",1", ",-2", " ,3 ", ",65535", ",-2147483648", " ", "0", ",-0"};
+    static const char *const more[] = {",1", ",-2", " ,3 ", ",4095", ",-2147483648", " ", "0", ",-0"};
     const char *text = more[below(sizeof more / sizeof *more)];
     for (size_t times = below(2) ? below(8) : 120 + below(16); times > 0; times--) splice(c, c->len[0], 0, text);
     if (below(3) == 0) splice(c, c->len[0], 0, piece());
@@ -765,9 +669,8 @@ static void same_count(struct call *c) {
 
 /* The same numbers modulo u g and v g, with a multiple up to twice the limit; often some of the second's terms from a place on are any. */
 static void same_numbers(struct call *c) {
-    uint32_t most = below(2) ? 64 : 256, u = 1 + below(most), v = 1 + below(most), g = 1 + below(1 + LARGEST / (u * v));
+    uint32_t u = 1 + below(64), v = 1 + below(64), g = 1 + below(1 + 4095 / (u * v));
     if (!two_queries(c)) return;
-    if (u * g > LARGEST || v * g > LARGEST) g = LARGEST / (u > v ? u : v);
     same_count(c);
     set_cell(c->bytes[0], 0, u * g), set_cell(c->bytes[1], 0, v * g);
     uint32_t n = terms_of(c), apart = below(3) ? n : below(n + 1);
@@ -775,19 +678,6 @@ static void same_numbers(struct call *c) {
         set_pair(c, at, any());
         if (at >= apart && below(2)) set_cell(c->bytes[1], 2 + at, below(v * g));
     }
-}
-
-/* 128 terms modulo m as they are left by two numbers whose multiple is m: m twice, a prime power of m and m, or that and the rest of m. */
-static void full_merge(struct call *c) {
-    static struct full s;
-    uint32_t m = legal_modulus(), p = least_prime(m), part = p, kind = below(3);
-    while (m / part % p == 0) part *= p;
-    const uint32_t first = kind == 0 ? m : part, second = kind == 2 && part < m ? m / part : m;
-    if (!two_queries(c)) return;
-    make_full(&s, m);
-    memcpy(c->bytes[0], s.query, QUERY), memcpy(c->bytes[1], s.query, QUERY);
-    reduce_query(c->bytes[0], first), reduce_query(c->bytes[1], second);
-    if (below(2)) change_places(c);
 }
 
 /* What is done to the query of other calls, to either of the two. */
@@ -866,23 +756,22 @@ static void query_of_period(struct call *c) {
 /* How many sequences there are, 0 where they are too many or there are none. */
 static uint32_t sequences(const struct call *c) {
     uint32_t p = 1;
-    if (c->number < 2 || c->number > LARGEST || c->count > TERMS) return 0;
-    for (uint32_t i = 0; i < c->count && p > 0; i++) p = p * c->number > SEQUENCES ? 0 : p * c->number;
+    if (c->number < 2 || c->number > 4095 || c->count > 128) return 0;
+    for (uint32_t i = 0; i < c->count && p > 0; i++) p = p * c->number > 4096 ? 0 : p * c->number;
     return p;
 }
 
 /* Another modulus, most often a small one, and a count that it may have, with any of the sequences. */
 static void legal_census(struct call *c) {
     uint32_t r = any();
-    const uint32_t moduli[] = {2 + r % 8, 2 + r % 8, 2 + r % 63, 2 + r % (SEQUENCES - 1), 2 + r % (LARGEST - 1)};
-    c->number = pick(moduli, 5), c->count = below(13);
+    const uint32_t moduli[] = {2 + r % 8, 2 + r % 8, 2 + r % 63, 2 + r % 4094};
+    c->number = pick(moduli, 4), c->count = below(13);
     while (sequences(c) == 0) c->count--;
     c->which = below(sequences(c));
 }
 
 static void census_modulus(struct call *c) {
-    uint32_t m = c->number, r = any(),
-             values[] = {0, 1, 2, m - 1, m + 1, 64, 65, 4095, 4096, 4097, 65535, 65536, 65537, 65538, m + 65536, 2 + r % 63, r % 65536, r};
+    uint32_t m = c->number, r = any(), values[] = {0, 1, 2, m - 1, m + 1, 64, 65, 4095, 4096, m + 65536, 2 + r % 63, r % 4096, r};
     c->number = pick(values, sizeof values / sizeof *values);
 }
 
@@ -917,8 +806,8 @@ static void query_of_sequence(struct call *c) {
 
 /* Something is done to one query, and to the records of the same query, as if it were looked up alone. */
 static void one_query(struct call *c) {
-    static void (*const ways[])(struct call *) = {one_cell,    one_term, one_term,   wrong_terms,  other_modulus, other_modulus, wild_modulus,
-                                                  other_count, other_l,  other_lead, other_number, other_number,  full_length};
+    static void (*const ways[])(struct call *) = {one_cell,     one_term,    one_term, wrong_terms, other_modulus, other_modulus,
+                                                  wild_modulus, other_count, other_l,  other_lead,  other_number,  other_number};
     static struct call alone;
     if (batch_size(c) == 0) return;
     uint8_t *query = c->bytes[0] + below(batch_size(c)) * QUERY;
@@ -989,15 +878,14 @@ static void query_alone(struct call *c) {
 
 /* One alteration in three is followed by another one, for the order of the refusals. */
 static void alter(struct call *c) {
-    static void (*const ways[])(struct call *) = {one_byte,     one_cell,     one_cell,        one_term,        one_term,
-                                                  wrong_terms,  one_length,   other_fill,      other_modulus,   other_modulus,
-                                                  wild_modulus, other_count,  other_operation, other_operation, other_l,
-                                                  other_lead,   other_number, full_length,     full_length};
+    static void (*const ways[])(struct call *) = {one_byte,        one_cell,        one_cell,      one_term,      one_term,     wrong_terms,
+                                                  one_length,      other_fill,      other_modulus, other_modulus, wild_modulus, other_count,
+                                                  other_operation, other_operation, other_l,       other_lead,    other_number};
     static void (*const line_ways[])(struct call *) = {one_byte,   one_piece, one_piece, one_digit, one_digit,  one_number,
                                                        one_number, one_sign,  shorter,   longer,    one_length, other_fill};
-    static void (*const merge_ways[])(struct call *) = {one_byte,     one_cell,     one_length,   other_fill,    either,     either,
-                                                        either,       either,       one_pair,     one_pair,      twice,      same_count,
-                                                        same_numbers, same_numbers, same_numbers, change_places, full_merge, full_merge};
+    static void (*const merge_ways[])(struct call *) = {one_byte,     one_cell,     one_length,   other_fill,   either, either,
+                                                        either,       either,       one_pair,     one_pair,     twice,  same_count,
+                                                        same_numbers, same_numbers, same_numbers, change_places};
     static void (*const period_ways[])(struct call *) = {one_byte,   other_digit, other_digit, wrong_digits,   wrong_digits, other_size,
                                                          other_size, repeated,    repeated,    any_length,     any_length,   any_length,
                                                          any_length, one_length,  one_length,  query_of_period};

@@ -69,8 +69,7 @@ round() {
 # A refusal that was never seen is a fault of the test; 3, 27 and 31 must have come at place 0 and at later ones, 33 from both calls that give
 # it, 5 and 23 from batches too, and each refusal of a query in a batch. So is it if no record with an accession number was found by an editor,
 # or by a visitor above 2^32, alone or in a batch, or no buffer was lent as both queries of a merge, or a length of a period from 0 to 64 was
-# never given, or a number of queries from 0 to 16 never answered in a batch, or for one of nine moduli with 128 terms no record was made, no
-# candidate passed or nothing was merged.
+# never given, or a number of queries from 0 to 16 never answered in a batch.
 total() {
     awk -v calls="$calls" -v seeds="$seed" -v seconds=$(($(date +%s) - began)) '
         { n[$1] += $2 }
@@ -98,12 +97,7 @@ total() {
             unseen += n["batch_editors_found"] == 0 || n["batch_visitors_found"] == 0 || sizes < 17
             printf " merged with itself in one buffer %d,", n["lent_twice"]
             for (i = 0; i <= 64; i++) lengths += n["length_" i] > 0
-            printf " lengths of periods %d, 128 terms", lengths
-            moduli = split("32768 59049 65535 65521 65025 30030 2 58081 63001", m)
-            for (i = 1; i <= moduli; i++) {
-                printf " modulo %d: made %d, passed %d, merged %d,", m[i], n["made_" m[i]], n["passed_" m[i]], n["merged_" m[i]]
-                unseen += n["made_" m[i]] == 0 || n["passed_" m[i]] == 0 || n["merged_" m[i]] == 0
-            }
+            printf " lengths of periods %d,", lengths
             printf " %d seeds, %d seconds\n", seeds, seconds
             exit unseen > 0 || n["editors_found"] == 0 || n["visitors_found"] == 0 || n["lent_twice"] == 0 || lengths < 65
         }' "$work/tally"

@@ -1,6 +1,6 @@
 /* How much stack the calls of the C interface use, and the register and its trace by the entry points of crates/timing: each runs in a thread
  * of its own on a painted stack, and the deepest byte that lost its paint counts, from the frame of the caller down. Usage: stack_use
- * [LIMIT]; exit 1 if a call used more than LIMIT bytes or did not end as it should. It takes some minutes: all moduli are measured. */
+ * [LIMIT]; exit 1 if a call used more than LIMIT bytes or did not end as it should. */
 #define _DEFAULT_SOURCE
 #include "diverthrone.h"
 
@@ -10,7 +10,7 @@
 #include <string.h>
 #include <sys/mman.h>
 
-enum { TERMS = 128, STACK = 1 << 17, PAINT = 0xC3, LARGEST = 65535, SEQUENCES = 4096 };
+enum { TERMS = 128, STACK = 1 << 17, PAINT = 0xC3 };
 enum {
     NOTHING,
     VERIFY,
@@ -139,9 +139,7 @@ static size_t depth(int kind) {
     need(pthread_create(&thread, &attributes, run, &argument) == 0 && pthread_join(thread, NULL) == 0, "no thread");
     pthread_attr_destroy(&attributes);
     need(argument == 1, names[kind]);
-    uint8_t *lowest = stack, painted[256];
-    memset(painted, PAINT, sizeof painted);
-    while (lowest + sizeof painted < caller && memcmp(lowest, painted, sizeof painted) == 0) lowest += sizeof painted;
+    uint8_t *lowest = stack;
     while (lowest < caller && *lowest == PAINT) lowest++;
     need(lowest > stack, "the stack is too small to measure");
     return (size_t)(caller - lowest);
@@ -178,7 +176,7 @@ static void make_merge(struct merge *m, uint32_t k) {
     uint32_t multiple = modulus / common_divisor(modulus, k) * k, times = multiple / modulus;
     memset(m->merged, PAINT, sizeof query);
     memset(m->want, PAINT, sizeof query);
-    m->reply = multiple > LARGEST ? 30 : 0;
+    m->reply = multiple > 4095 ? 30 : 0;
     put(m->second, 0, k), put(m->second, 1, TERMS);
     if (m->reply == 0) put(m->want, 0, multiple), put(m->want, 1, TERMS);
     for (uint32_t i = 0; i < TERMS; i++) {
@@ -192,7 +190,7 @@ static void make_merge(struct merge *m, uint32_t k) {
  * Euclid's division has the most steps, whether the multiple is in the limits or not. */
 static void make_merges(void) {
     uint32_t golden = (uint32_t)(modulus * 0.6180339887 + 0.5);
-    make_merge(&merges[0], modulus <= LARGEST / 2 ? LARGEST / modulus : modulus);
+    make_merge(&merges[0], modulus <= 2047 ? 4095 / modulus : modulus);
     make_merge(&merges[1], golden < 2 ? 2 : golden);
 }
 
@@ -209,11 +207,11 @@ static void make_period(void) {
     period_reply = 256 * (uint64_t)diverthrone_cell(made + DIVERTHRONE_LENGTH_PLACE, 0);
 }
 
-/* The most terms that the modulus may have, which are none above 4,096, one less, or none. */
+/* The most terms that the modulus may have, one less, or none. */
 static void make_census(int shape) {
     uint32_t most = 0;
-    for (sequences = modulus; sequences <= SEQUENCES; sequences *= modulus) most++;
-    census_terms = shape == 2 || most == 0 ? 0 : most - (uint32_t)shape;
+    for (sequences = modulus; sequences <= 4096; sequences *= modulus) most++;
+    census_terms = shape == 2 ? 0 : most - (uint32_t)shape;
     sequences = 1;
     for (uint32_t i = 0; i < census_terms; i++) sequences *= modulus;
     memset(numbered, PAINT, sizeof numbered);
@@ -267,7 +265,7 @@ static void print_row(const char *title, const size_t most[KINDS]) {
 }
 
 int main(int argc, char **argv) {
-    static const uint32_t shown[] = {2048, 2310, 3600, 4095, 32768, 59049, 30030, 58081, 65521, 65535};
+    static const uint32_t shown[] = {2048, 2310, 3600, 4095};
     size_t all[KINDS] = {0}, deepest = 0;
     stack = mmap(NULL, STACK, PROT_READ | PROT_WRITE, MAP_PRIVATE | MAP_ANONYMOUS, -1, 0);
     need(stack != MAP_FAILED, "no memory");
@@ -281,7 +279,7 @@ int main(int argc, char **argv) {
         snprintf(title, sizeof title, "m = %u", (unsigned)shown[i]);
         print_row(title, most);
     }
-    for (uint32_t m = 2; m <= LARGEST; m++) measure(m, all);
+    for (uint32_t m = 2; m <= 4095; m++) measure(m, all);
     print_row("all moduli", all);
     for (int kind = 0; kind < KINDS; kind++)
         if (all[kind] > deepest) deepest = all[kind];

@@ -38,5 +38,5 @@ cases =
       case11 = refl;
       case12 = refl;
       case13 = (refl, refl, refl);
-      case14 = (refl, refl, refl);
+      case14 = (refl, refl);
     }

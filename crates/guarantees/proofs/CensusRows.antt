@@ -56,14 +56,11 @@ twelve_last_row : cell_at (cells_to 2 12) 12 ≡ 1
 unfolding first least_divisor
 twelve_last_row = of_2.prime (test_prime 2 refl) 12 (omega arith) (omega arith)
 
-of_4096 : Tally 4096 1 (sevens query_bytes) (sevens tally_bytes)
-of_4096 = claim 4096 1 (record { modulus = record { least = omega arith; most = omega arith }; count = omega arith; power = omega arith })
-
 -- all but one sequence of one term have length 1
-one_term_row : cell_at (cells_to 4096 1) 1 ≡ 4095
+one_term_row : cell_at (cells_to 4095 1) 1 ≡ 4094
 unfolding sum_to
 one_term_row =
-    let t = of_4096 in
+    let t = claim 4095 1 (record { modulus = record { least = omega arith; most = omega arith }; count = omega arith; power = omega arith }) in
     omega (
       arith,
       t.whole,
@@ -101,7 +98,6 @@ census_rows =
       twelve = twelve_row;
       twelve_last = twelve_last_row;
       one_term = one_term_row;
-      one_term_none = of_4096.none;
       six = refl;
       next = refl;
       decimal = refl;
@@ -143,19 +139,14 @@ census_rows =
       tally_5_few = refl;
       number_1_below = refl;
       number_1_above = refl;
-      number_1_cut = refl;
       tally_1_below = refl;
       tally_1_above = refl;
-      tally_1_cut = refl;
       number_2 = refl;
       tally_2 = refl;
       number_33_power = refl;
       number_33_most = refl;
       tally_33_power = refl;
       tally_33_most = refl;
-      number_33_next = refl;
-      tally_33_next = refl;
-      tally_33_largest = refl;
       number_33_equal = refl;
       number_33_none = refl;
       number_33_wide = refl;

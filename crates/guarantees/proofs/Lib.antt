@@ -9,7 +9,6 @@ pub mod Visitors
 pub mod Cases
 pub mod Counted
 pub mod Numbers
-pub mod LargeRows
 pub mod Driving
 pub mod Testing
 pub mod Refusals

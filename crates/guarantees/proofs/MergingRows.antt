@@ -57,9 +57,9 @@ module _ (x y : List ℕ) (fx : check_of x ≡ Done) (fy : check_of y ≡ Done) 
       (M.done (common_multiple (cell_at x 0) (cell_at y 0)) (common_divisor (cell_at x 0) (cell_at y 0)) held counts (multiple x y fx fy) h (divisor x y fx fy)
       (λ j l. ap (λ (g : ℕ). cell_at x (2 + j) % g) one ∙ mod-one (cell_at x (2 + j)) ∙ sym (ap (λ (g : ℕ). cell_at y (2 + j) % g) one ∙ mod-one (cell_at y (2 + j)))) refl))
 
-multiple_256_257 : common_multiple 256 257 ≡ 65792
+multiple_64_65 : common_multiple 64 65 ≡ 4160
 unfolding first common_divisor
-multiple_256_257 = sym (multiple_product 256 257 (omega arith) (omega arith))
+multiple_64_65 = sym (multiple_product 64 65 (omega arith) (omega arith))
 
 multiple_512_513 : common_multiple 512 513 ≡ 262656
 unfolding first common_divisor
@@ -69,37 +69,29 @@ multiple_512_514 : common_multiple 512 514 ≡ 131584
 unfolding first common_divisor
 multiple_512_514 = sym (multiple_product 512 514 (omega arith) (omega arith))
 
-multiple_2_65535 : common_multiple 2 65535 ≡ 131070
+multiple_63_65 : common_multiple 63 65 ≡ 4095
 unfolding first common_divisor
-multiple_2_65535 = sym (multiple_product 2 65535 (omega arith) (omega arith))
+multiple_63_65 = sym (multiple_product 63 65 (omega arith) (omega arith))
 
-multiple_255_257 : common_multiple 255 257 ≡ 65535
+coprime_63_65 : common_divisor 63 65 ≡ 1
 unfolding first common_divisor
-multiple_255_257 = sym (multiple_product 255 257 (omega arith) (omega arith))
-
-coprime_255_257 : common_divisor 255 257 ≡ 1
-unfolding first common_divisor
-coprime_255_257 = refl
+coprime_63_65 = refl
 
 above_none : answer_to (query_of 512 []) (query_of 513 []) ≡ refused 30
 unfolding tabulate first all bytes_of fault_of sequence_of check_of
 above_none = above (query_of 512 []) (query_of 513 []) refl refl refl (omega (arith, multiple_512_513))
 
-above_one : answer_to (query_of 256 (3 ∷ [])) (query_of 257 (3 ∷ [])) ≡ refused 30
+above_one : answer_to (query_of 64 (3 ∷ [])) (query_of 65 (3 ∷ [])) ≡ refused 30
 unfolding tabulate first all bytes_of fault_of sequence_of check_of
-above_one = above (query_of 256 (3 ∷ [])) (query_of 257 (3 ∷ [])) refl refl refl (omega (arith, multiple_256_257))
-
-above_twice : answer_to (query_of 2 []) (query_of 65535 []) ≡ refused 30
-unfolding tabulate first all bytes_of fault_of sequence_of check_of
-above_twice = above (query_of 2 []) (query_of 65535 []) refl refl refl (omega (arith, multiple_2_65535))
+above_one = above (query_of 64 (3 ∷ [])) (query_of 65 (3 ∷ [])) refl refl refl (omega (arith, multiple_64_65))
 
 above_apart : answer_to (query_of 512 (1 ∷ [])) (query_of 514 (2 ∷ [])) ≡ refused 30
 unfolding tabulate first all bytes_of fault_of sequence_of check_of
 above_apart = above (query_of 512 (1 ∷ [])) (query_of 514 (2 ∷ [])) refl refl refl (omega (arith, multiple_512_514))
 
-at_the_limit : answer_to (query_of 255 (254 ∷ [])) (query_of 257 (256 ∷ [])) ≡ granted []
+at_the_limit : answer_to (query_of 63 (62 ∷ [])) (query_of 65 (64 ∷ [])) ≡ granted []
 unfolding tabulate first all bytes_of fault_of sequence_of check_of
-at_the_limit = within (query_of 255 (254 ∷ [])) (query_of 257 (256 ∷ [])) refl refl refl (omega (arith, multiple_255_257)) coprime_255_257
+at_the_limit = within (query_of 63 (62 ∷ [])) (query_of 65 (64 ∷ [])) refl refl refl (omega (arith, multiple_63_65)) coprime_63_65
 
 pub merged_rows : MergedRows
 unfolding tabulate largest first all every sum_to bytes_of neg inverse valuation cofactor least_divisor least_power powers_up_to prime_powers joined common_divisor common_multiple conv plus times up top degree len discrepancy case_of partner multiplier change remembered older no_older next history row_at part parts complexity register first_of fault_of check_of open_of push_of sequence_of uniqueness_by report_of merged_query compared_of merge_of merge_answer after_all reply
@@ -139,7 +131,6 @@ merged_rows =
       refused_5_buffer = refl;
       refused_29 = refl;
       refused_30 = above_one;
-      refused_30_twice = above_twice;
       largest = at_the_limit;
       refused_31_first = refl;
       order_5_1 = refl;

@@ -71,6 +71,4 @@ pub record Cases : Type 0 where
       (outcome_answer (push_of (open_of 4095).sequence 4094).outcome ≡ granted [])
       × (outcome_answer (push_of (open_of 4095).sequence 4095).outcome ≡ refused_at 3 0)
       × (outcome_answer (push_of (after 4095 (4094 ∷ [])) 4095).outcome ≡ refused_at 3 1)
-  pub case14 :
-      (outcome_answer (open_of 4096).outcome ≡ granted []) × (outcome_answer (open_of 65536).outcome ≡ refused 1)
-      × (outcome_answer (open_of 1).outcome ≡ refused 1)
+  pub case14 : (outcome_answer (open_of 4096).outcome ≡ refused 1) × (outcome_answer (open_of 1).outcome ≡ refused 1)

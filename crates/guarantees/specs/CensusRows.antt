@@ -49,24 +49,23 @@ pub record CensusRows : Type 0 where
   pub six_two : cells_to 6 2 ≡ padded (1 ∷ 20 ∷ 15 ∷ [])
   pub eight_one : cells_to 8 1 ≡ padded (1 ∷ 7 ∷ [])
   pub none_left : cells_to 2 0 ≡ padded (1 ∷ [])
-  pub none_large : cells_to 65535 0 ≡ padded (1 ∷ [])
-  -- 3,721 and 4,096 sequences modulo a prime, and 4,096 of one term
+  pub none_large : cells_to 4095 0 ≡ padded (1 ∷ [])
+  -- 3,721 and 4,096 sequences modulo a prime, and 4,095 of one term
   pub sixty_one : cell_at (cells_to 61 2) 1 ≡ 3660
   pub sixty_one_last : cell_at (cells_to 61 2) 2 ≡ 60
   pub twelve : cell_at (cells_to 2 12) 6 ≡ 2048
   pub twelve_last : cell_at (cells_to 2 12) 12 ≡ 1
-  pub one_term : cell_at (cells_to 4096 1) 1 ≡ 4095
-  pub one_term_none : cell_at (cells_to 4096 1) 0 ≡ 1
+  pub one_term : cell_at (cells_to 4095 1) 1 ≡ 4094
   -- numbers: the last term runs fastest
   pub six : query_to 2 3 6 ≡ query_of 2 (1 ∷ 1 ∷ 0 ∷ [])
   pub next : query_to 2 3 1 ≡ query_of 2 (0 ∷ 0 ∷ 1 ∷ [])
   pub decimal : query_to 10 3 527 ≡ query_of 10 (5 ∷ 2 ∷ 7 ∷ [])
   pub first : query_to 10 3 0 ≡ query_of 10 (0 ∷ 0 ∷ 0 ∷ [])
   pub last : query_to 2 12 4095 ≡ query_of 2 (replicate 12 1)
-  pub one : query_to 4096 1 4095 ≡ query_of 4096 (4095 ∷ [])
+  pub one : query_to 4095 1 4094 ≡ query_of 4095 (4094 ∷ [])
   pub empty : query_to 9 0 0 ≡ query_of 9 []
   pub last_done : number_to 2 12 4095 ≡ granted []
-  pub empty_done : number_to 65535 0 0 ≡ granted []
+  pub empty_done : number_to 4095 0 0 ≡ granted []
   -- lines of the census, as they are typed and printed: numbers with leading zeros are printed without, a refusal does not end it
   pub head : census_header ≡ bytes "modulus count tally\n"
   pub printed : pair_line (bytes "2 3") ≡ bytes "2 3 1,2,4,1\n"
@@ -103,21 +102,16 @@ pub record CensusRows : Type 0 where
   pub tally_5_long : tally_answer 2 3 (sevens 27) ≡ refused 5
   pub tally_5_few : tally_answer 2 3 (sevens 8) ≡ refused 5
   pub number_1_below : number_to 1 3 0 ≡ refused 1
-  pub number_1_above : number_to 65536 0 0 ≡ refused 1
-  pub number_1_cut : number_to 65538 3 0 ≡ refused 1
+  pub number_1_above : number_to 4096 1 0 ≡ refused 1
   pub tally_1_below : tally_to 0 0 ≡ refused 1
-  pub tally_1_above : tally_to 65536 0 ≡ refused 1
-  pub tally_1_cut : tally_to 65538 3 ≡ refused 1
+  pub tally_1_above : tally_to 4096 0 ≡ refused 1
   pub number_2 : number_to 2 129 0 ≡ refused 2
   pub tally_2 : tally_to 2 129 ≡ refused 2
-  -- 33: 2^13, 2^128, 65^2, 65,535^128, and one term modulo the next number above 4,096 and the largest; a number that is the power, and one that would fit if it were cut to 32 bits
+  -- 33: 2^13, 2^128, 65^2, 4,095^2; a number that is the power, and one that would fit if it were cut to 32 bits
   pub number_33_power : number_to 2 13 0 ≡ refused 33
   pub number_33_most : number_to 2 128 0 ≡ refused 33
   pub tally_33_power : tally_to 65 2 ≡ refused 33
-  pub tally_33_most : tally_to 65535 128 ≡ refused 33
-  pub number_33_next : number_to 4097 1 0 ≡ refused 33
-  pub tally_33_next : tally_to 4097 1 ≡ refused 33
-  pub tally_33_largest : tally_to 65535 1 ≡ refused 33
+  pub tally_33_most : tally_to 4095 128 ≡ refused 33
   pub number_33_equal : number_to 2 12 4096 ≡ refused 33
   pub number_33_none : number_to 9 0 1 ≡ refused 33
   pub number_33_wide : number_to 2 3 (2 ^ 32) ≡ refused 33
@@ -127,11 +121,11 @@ pub record CensusRows : Type 0 where
   pub number_order_5_2 : enumerate_answer 2 129 0 (sevens 26) ≡ refused 5
   pub number_order_5_33 : enumerate_answer 2 3 8 (sevens 0) ≡ refused 5
   pub number_order_1_2 : number_to 1 129 0 ≡ refused 1
-  pub number_order_1_33 : number_to 65536 1 0 ≡ refused 1
+  pub number_order_1_33 : number_to 4096 2 0 ≡ refused 1
   pub number_order_2_33 : number_to 2 129 (2 ^ 32) ≡ refused 2
   pub tally_order_5_1 : tally_answer 0 3 (sevens 260) ≡ refused 5
   pub tally_order_5_2 : tally_answer 2 129 (sevens 0) ≡ refused 5
   pub tally_order_5_33 : tally_answer 2 13 (sevens 28) ≡ refused 5
   pub tally_order_1_2 : tally_to 0 129 ≡ refused 1
-  pub tally_order_1_33 : tally_to 65536 2 ≡ refused 1
+  pub tally_order_1_33 : tally_to 5000 2 ≡ refused 1
   pub tally_order_2_33 : tally_to 3 200 ≡ refused 2

@@ -4,7 +4,6 @@ pub mod Visitors
 pub mod Cases
 pub mod Only
 pub mod Numbers
-pub mod LargeRows
 pub mod Refusals
 pub mod Coded
 pub mod Columns

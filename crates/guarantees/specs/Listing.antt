@@ -119,4 +119,4 @@ pub record Printed : Type 0 where
   pub typed_1 : typed_line (bytes "mod 1:") ≡ bytes "refused 1\n"
   pub number_zero : numeral 0 ≡ bytes "0"
   pub number_ten : numeral 10 ≡ bytes "10"
-  pub number_largest : numeral 65535 ≡ bytes "65535"
+  pub number_largest : numeral 4095 ≡ bytes "4095"

@@ -56,7 +56,7 @@ pub record MergedRows : Type 0 where
   pub second_code_1 : code_to (query_of 12 (7 ∷ 2 ∷ [])) (query_of 18 (13 ∷ 18 ∷ [])) ≡ 3 + 256 * 1
   -- each refusal
   pub refused_1_first : answer_to (query_of 1 []) (query_of 18 []) ≡ refused 1
-  pub refused_1_second : answer_to (query_of 12 []) (query_of 0 []) ≡ refused 1
+  pub refused_1_second : answer_to (query_of 12 []) (query_of 4096 []) ≡ refused 1
   pub refused_2_first : answer_to (counted 12 129 []) (query_of 18 []) ≡ refused 2
   pub refused_2_second : answer_to (query_of 12 []) (counted 18 129 []) ≡ refused 2
   pub refused_3_first : answer_to (query_of 12 (7 ∷ 12 ∷ 13 ∷ [])) (query_of 18 (0 ∷ 0 ∷ 0 ∷ [])) ≡ refused_at 3 1
@@ -67,9 +67,8 @@ pub record MergedRows : Type 0 where
   pub refused_5_second : answer_to (query_of 12 []) [] ≡ refused 5
   pub refused_5_buffer : merge_answer (query_of 12 []) (query_of 18 []) (zeros 258) ≡ refused 5
   pub refused_29 : answer_to (query_of 12 (7 ∷ [])) (query_of 18 (13 ∷ 2 ∷ [])) ≡ refused 29
-  pub refused_30 : answer_to (query_of 256 (3 ∷ [])) (query_of 257 (3 ∷ [])) ≡ refused 30
-  pub refused_30_twice : answer_to (query_of 2 []) (query_of 65535 []) ≡ refused 30
-  pub largest : answer_to (query_of 255 (254 ∷ [])) (query_of 257 (256 ∷ [])) ≡ granted []
+  pub refused_30 : answer_to (query_of 64 (3 ∷ [])) (query_of 65 (3 ∷ [])) ≡ refused 30
+  pub largest : answer_to (query_of 63 (62 ∷ [])) (query_of 65 (64 ∷ [])) ≡ granted []
   pub refused_31_first : answer_to (query_of 12 (7 ∷ 2 ∷ 11 ∷ 0 ∷ [])) (query_of 18 (13 ∷ 2 ∷ 16 ∷ 1 ∷ [])) ≡ refused_at 31 2
   -- where two apply, the first in the order is given: the two in a row's name
   pub order_5_1 : merge_answer (query_of 1 []) (query_of 18 []) [] ≡ refused 5

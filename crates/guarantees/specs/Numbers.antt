@@ -92,7 +92,7 @@ blank = step 7 7 7 7 7 7 7 7
 
 -- each answer, and each condition of each refusal
 pub record Numbers : Type 0 where
-  pub opened : open_answer 65535 ≡ granted []
+  pub opened : open_answer 4095 ≡ granted []
   pub pushed : push_answer (open_of 9).sequence 8 ≡ granted []
   pub pushed_all : column_to (after 9 (6 ∷ [])) (3 ∷ 1 ∷ 5 ∷ 6 ∷ []) ≡ granted []
   pub pushed_none : column_to (open_of 9).sequence [] ≡ granted []
@@ -106,9 +106,6 @@ pub record Numbers : Type 0 where
   pub column_bytes :
       push_all_of (open_of 4095).sequence (254 ∷ 15 ∷ 255 ∷ 15 ∷ [])
       ≡ record { sequence = after 4095 (4094 ∷ []); taken = 1; outcome = Refused (Term 1) }
-  pub column_largest :
-      push_all_of (open_of 65535).sequence (254 ∷ 255 ∷ 255 ∷ 255 ∷ [])
-      ≡ record { sequence = after 65535 (65534 ∷ []); taken = 1; outcome = Refused (Term 1) }
   pub column_ends_full :
       push_all_of (forged 2 127 []) (bytes_of (1 ∷ 0 ∷ 0 ∷ []))
       ≡ record { sequence = forged 2 128 (replicate 127 0 ++ (1 ∷ [])); taken = 1; outcome = Refused Full }
@@ -148,10 +145,7 @@ pub record Numbers : Type 0 where
   pub placed_code_127 : code_of (synthesize_to (query_of 5 (replicate 127 4 ++ (5 ∷ [])))) ≡ 3 + 256 * 127
   pub plain_code : code_of (look_up_to (1 ∷ 4 ∷ 7 ∷ 2 ∷ []) (6 ∷ 0 ∷ 1 ∷ []) 3) ≡ 24
   pub refused_1_below : synthesize_to (query_of 1 []) ≡ refused 1
-  pub refused_1_zero : synthesize_to (query_of 0 []) ≡ refused 1
-  pub refused_1_opened : open_answer 65536 ≡ refused 1
-  pub refused_1_run : generate_to 65536 (1 ∷ []) 0 2 ≡ refused 1
-  pub refused_1_run_cut : generate_to 65545 (1 ∷ []) 0 2 ≡ refused 1
+  pub refused_1_above : synthesize_to (query_of 4096 []) ≡ refused 1
   pub refused_2 : synthesize_to (counted 2 129 []) ≡ refused 2
   pub refused_2_cells : generate_to 9 (1 ∷ []) 0 258 ≡ refused 2
   pub refused_3_at_0 : synthesize_to (query_of 5 (5 ∷ [])) ≡ refused_at 3 0
@@ -177,11 +171,6 @@ pub record Numbers : Type 0 where
   pub refused_6_lead_above : verify_to (9 ∷ 4 ∷ 7 ∷ 1 ∷ []) (6 ∷ 0 ∷ 1 ∷ []) 3 ≡ refused 6
   pub refused_6_run : generate_to 9 (1 ∷ 4 ∷ []) 0 2 ≡ refused 6
   pub refused_21_modulus : push_answer (open_of 1).sequence 0 ≡ refused 21
-  pub refused_21_above : register_to (forged 65536 0 []) ≡ refused 21
-  pub refused_21_above_pushed : push_answer (forged 65536 0 []) 0 ≡ refused 21
-  pub refused_21_above_profiled : profile_to (forged 65536 0 []) ≡ refused 21
-  pub refused_21_above_traced : trace_to (forged 65536 0 []) 0 ≡ refused 21
-  pub refused_21_above_column : column_to (forged 65536 0 []) [] ≡ refused 21
   pub refused_21_count : push_answer (forged 5 129 []) 0 ≡ refused 21
   pub refused_21_term : register_to (forged 5 1 (5 ∷ [])) ≡ refused 21
   pub refused_21_padding : profile_to (forged 5 0 (1 ∷ [])) ≡ refused 21

@@ -107,4 +107,4 @@ pub record OnlyRows : Type 0 where
   pub two_whole : answered 2 (0 ∷ 0 ∷ 1 ∷ []) ≡ Length 3 Several
   pub two_eight : lists_for 2 (0 ∷ 0 ∷ 1 ∷ []) 3 ≡ 8
   -- the largest modulus
-  pub largest : answered 65535 (1 ∷ []) ≡ Length 1 NotTold
+  pub largest : answered 4095 (1 ∷ []) ≡ Length 1 NotTold

@@ -40,7 +40,7 @@ pub record Typed : Type 0 where
   pub blanks_around : query_to "mod 9:  1 , -2  ,3 " ≡ query_of 9 (1 ∷ 7 ∷ 3 ∷ [])
   pub no_terms : query_to "mod 9:" ≡ query_of 9 []
   pub only_blanks : query_to "mod 9:  " ≡ query_of 9 []
-  pub largest_modulus : query_to "mod 65535:-1,-2147483648,2147483647" ≡ query_of 65535 (65534 ∷ 32767 ∷ 32767 ∷ [])
+  pub largest_modulus : query_to "mod 4095:-1" ≡ query_of 4095 (4094 ∷ [])
   pub as_many_as_fit : read_answer (many 127 "") (zeros query_bytes) ≡ granted []
   -- 27 at the first byte that no line has there
   pub other_text : answer_to "nod 9:1" ≡ refused_at 27 0
@@ -77,7 +77,7 @@ pub record Typed : Type 0 where
   pub form_then_range : answer_to "mod 9:x2147483648" ≡ refused_at 27 6
   pub modulus_0 : answer_to "mod 0:" ≡ refused 1
   pub modulus_1 : answer_to "mod 1:1,2" ≡ refused 1
-  pub modulus_65536 : answer_to "mod 65536:1" ≡ refused 1
+  pub modulus_4096 : answer_to "mod 4096:1" ≡ refused 1
   pub modulus_most : answer_to "mod 2147483647:1" ≡ refused 1
   pub form_then_1 : answer_to "mod 1:1,x" ≡ refused_at 27 8
   pub range_then_1 : answer_to "mod 1:2147483648" ≡ refused_at 28 15

@@ -1,182 +1,141 @@
--- The least divisor by division by the primes below 256: what those that do not divide a number rule out, and that a number which none of them divides, and
--- which is below the square of the next number to try, is its own.
+-- The least divisor of an odd number from the table: a test of an entry at its place, which is computed for the whole table, and that an entry that passes is
+-- the least divisor. Of an even number from 2 on it is 2; 0 stands for itself.
 -- Assumes nothing.
 use mathlib.Core.Path.{◌≡◌, refl, sym, ap, ◌∙◌, subst}
-use mathlib.Core.Logic.{◌⊎◌, inl, inr, ◌≢◌}
+use mathlib.Core.Logic.{◌≢◌}
 use mathlib.Core.Bool.{Bool, true, false}
-use mathlib.Core.List.{List, ◌∷◌}
-use Prim.Native.Nat.{ℕ, zero, suc, ◌+◌, ◌*◌, ◌/◌, ◌%◌, ◌≤◌, ◌<◌, ◌∣◌}
-use native.Mathlib.Nat.{dvd_of_mod-eq-zero, mod-eq-zero_of_dvd, mod_self, div-mul_cancel, dvd-mul_right, div-lt_iff_lt-mul, mul-le-mul_left, add-zero, add-suc, suc-add}
-use native.Mathlib.Decide.{ℕ_discrete}
+use mathlib.Core.List.{List, [], ◌∷◌}
+use Prim.Native.Nat.{ℕ, zero, suc, ◌+◌, ◌*◌, ◌-◌, ◌/◌, ◌%◌, ◌≤◌, ◌<◌, min, ◌∣◌}
+use native.Mathlib.Nat.{mod-eq-zero_of_dvd, dvd_of_mod-eq-zero, div-mul_cancel, dvd-mul_right, div-lt_iff_lt-mul, le_of_dvd, add-zero, zero-add, add-suc, suc-add, le_of_suc-le-suc, not-suc-le-zero}
+use native.Mathlib.Decide.{dec_lt, ℕ_discrete}
 use native.Mathlib.Omega.{arith}
-use lib.Dec.{eqb, leb}
-use lib.ListN.{length}
-use borrow.Author.Tests.{eq-eqb, le-leb, leb-true}
+use lib.Dec.{eqb, leb, ltb}
+use lib.ListN.{length, get_or}
+use borrow.Author.Tests.{eqb-true, leb-true, ltb-true}
+use Rattle.lists.specs.Choice.{pick, both}
 use Rattle.lists.specs.Search.{first}
-use Rattle.lists.specs.Table.{at}
-use Rattle.lists.proofs.Search.{both_left, both_true, false_true, lt_or_le}
-use Rattle.residue.specs.Factors.{least_divisor, is_prime, divisors_end}
-use Rattle.residue.specs.Primes.{primes_from, primes, prime_count}
-use Rattle.residue.proofs.Factors.{IsLeastDivisor, least_divisor_lem, is_least_divisor, divides_trans}
+use Rattle.lists.proofs.Search.{both_left, both_right}
+use Rattle.residue.specs.Factors.{least_divisor, divisors_end}
+use Rattle.residue.proofs.Factors.{IsLeastDivisor, is_least_divisor}
 
--- no number from 2 up and below x divides n
-abbrev NoneBelow : ℕ → ℕ → Type 0
-NoneBelow n x = (d : ℕ) → 1 < d → d < x → n % d ≢ zero
+-- ---- one entry
 
--- none of the first i entries divides n
-abbrev NoneOf : List ℕ → ℕ → ℕ → Type 0
-NoneOf xs n i = (j : ℕ) → j < i → n % at xs j ≢ zero
+-- none of d, .., d + k - 1 divides n
+abbrev none_from : ℕ → ℕ → ℕ → Bool
+none_from n zero d = true
+none_from n (suc k) d = both (ltb zero (n % d)) (none_from n k (suc d))
 
-none_more : (n d : ℕ) → NoneBelow n d → (1 < d → n % d ≢ zero) → NoneBelow n (suc d)
-none_more n d h here e lo hi z = go (ℕ_discrete e d)
+-- x is below 64 or is n itself, and no number below x and below 64 divides n
+abbrev least : ℕ → ℕ → Bool
+least n x = both (pick (ltb x 64) true (eqb x n)) (none_from n (min x 64 - 2) 2)
+
+abbrev divides : ℕ → ℕ → Bool
+divides n x = both (eqb (n % x) zero) (least n x)
+
+-- the test of the entry x at the place i, which is that of 2 i + 1
+abbrev pub entry : ℕ → ℕ → Bool
+entry zero x = eqb x 1
+entry (suc i) x = both (leb 2 x) (divides (2 * suc i + 1) x)
+
+none_at : (n k d : ℕ) → none_from n k d ≡ true → (e : ℕ) → d ≤ e → e < d + k → n % e ≢ zero
+none_at n zero d t e lo hi z = omega arith
+none_at n (suc k) d t e lo hi z =
+    go (ℕ_discrete e d) (none_at n k (suc d) (both_right (ltb zero (n % d)) (none_from n k (suc d)) t) e)
   where
-    go : Dec (e ≡ d) → ⊥
-    go (yes same) = here (omega arith) (subst (λ (y : ℕ). n % y ≡ zero) same z)
-    go (no other) = h e lo (omega arith) z
+    go : Dec (e ≡ d) → (suc d ≤ e → e < suc d + k → n % e ≢ zero) → ⊥
+    go (yes h) ih =
+        let p : zero < n % d = ltb-true zero (n % d) (both_left (ltb zero (n % d)) (none_from n k (suc d)) t) in
+        let q : n % d ≡ zero = subst (λ (y : ℕ). n % y ≡ zero) h z in
+        omega arith
+    go (no h) ih = ih (omega arith) (omega arith) z
 
--- a number that is no prime has a smaller divisor, which would divide n too
-none_composite : (n d : ℕ) → is_prime d ≡ false → NoneBelow n d → 1 < d → n % d ≢ zero
-none_composite n d t h lo z = go (ℕ_discrete (least_divisor d) d)
-  where
-    x : IsLeastDivisor d (least_divisor d)
-    x = least_divisor_lem d lo
-
-    go : Dec (least_divisor d ≡ d) → ⊥
-    go (yes same) = false_true (sym t ∙ both_true (le-leb 2 d lo) (eq-eqb (least_divisor d) d same))
-    go (no other) = h (least_divisor d) x.big (omega (arith, x.most)) (divides_trans (least_divisor d) d n x.divides z)
-
--- d is listed if it is a prime
-abbrev listed : Bool → ℕ → List ℕ → List ℕ
-listed t d xs = elim t [ true ↦ d ∷ xs | false ↦ xs ]
-
--- one number more: a prime is an entry and does not divide n, any other cannot
-none_entry : (n d : ℕ) → NoneBelow n d → n % d ≢ zero → NoneBelow n (suc d)
-none_entry n d h z = none_more n d h (λ _. z)
-
-none_other : (n d : ℕ) → is_prime d ≡ false → NoneBelow n d → NoneBelow n (suc d)
-none_other n d t h = none_more n d h (none_composite n d t h)
-
--- primes that do not divide n rule out all numbers up to the next prime
-none_before : (k d n i : ℕ) → NoneBelow n d → NoneOf (primes_from k d) n i → i < length (primes_from k d) → NoneBelow n (at (primes_from k d) i)
-unfolding primes_from
-none_before zero d n i h f l = absurd (omega arith)
-none_before (suc k) d n i h f l = go (is_prime d) refl i f l (λ j. none_before k (suc d) n j)
-  where
-    rest : List ℕ
-    rest = primes_from k (suc d)
-
-    go :
-        (t : Bool) → is_prime d ≡ t → (i : ℕ) → NoneOf (listed t d rest) n i → i < length (listed t d rest)
-        → ((j : ℕ) → NoneBelow n (suc d) → NoneOf rest n j → j < length rest → NoneBelow n (at rest j)) → NoneBelow n (at (listed t d rest) i)
-    go true e zero f l ih = h
-    go true e (suc i) f l ih = ih i (none_entry n d h (f zero (omega arith))) (λ j b. f (suc j) (omega arith)) (omega arith)
-    go false e i f l ih = ih i (none_other n d e h) f l
-
--- and, if none of them divides n, all that were looked at
-none_through : (k d n : ℕ) → NoneBelow n d → NoneOf (primes_from k d) n (length (primes_from k d)) → NoneBelow n (d + k)
-unfolding primes_from
-none_through zero d n h f = subst (NoneBelow n) (sym (add-zero d)) h
-none_through (suc k) d n h f = subst (NoneBelow n) (suc-add d k ∙ sym (add-suc d k)) (go (is_prime d) refl f (none_through k (suc d) n))
-  where
-    rest : List ℕ
-    rest = primes_from k (suc d)
-
-    go :
-        (t : Bool) → is_prime d ≡ t → NoneOf (listed t d rest) n (length (listed t d rest))
-        → (NoneBelow n (suc d) → NoneOf rest n (length rest) → NoneBelow n (suc d + k)) → NoneBelow n (suc d + k)
-    go true e f ih = ih (none_entry n d h (f zero (omega arith))) (λ j b. f (suc j) (omega arith))
-    go false e f ih = ih (none_other n d e h) f
-
-entry_big : (k d i : ℕ) → i < length (primes_from k d) → 1 < at (primes_from k d) i
-unfolding primes_from
-entry_big zero d i l = absurd (omega arith)
-entry_big (suc k) d i l = go (is_prime d) refl i l (λ j. entry_big k (suc d) j)
-  where
-    rest : List ℕ
-    rest = primes_from k (suc d)
-
-    go :
-        (t : Bool) → is_prime d ≡ t → (i : ℕ) → i < length (listed t d rest) → ((j : ℕ) → j < length rest → 1 < at rest j) → 1 < at (listed t d rest) i
-    go true e zero l ih = leb-true 2 d (both_left (leb 2 d) (eqb (least_divisor d) d) e)
-    go true e (suc i) l ih = ih i (omega arith)
-    go false e i l ih = ih i l
-
--- ---- a number below a square
-
-proper : (q d n : ℕ) → q * d ≡ n → d < n → 1 < q
+proper : (q d n : ℕ) → q * d ≡ n → d < n → 2 ≤ q
 proper zero d n e h = absurd (omega arith)
 proper (suc zero) d n e h = absurd (omega arith)
 proper (suc (suc q)) d n e h = omega arith
 
--- a divisor from x on has a cofactor below x, so that n, if it is below x squared, has none but itself
-square_none : (n x : ℕ) → NoneBelow n x → n < x * x → NoneBelow n n
-square_none n x h l d lo hi z = go (lt_or_le d x)
+large : (x n : ℕ) → pick (ltb x 64) true (eqb x n) ≡ true → 64 < x → x ≡ n
+large x n t h = go (ltb x 64) refl t
   where
-    go : (d < x) ⊎ (x ≤ d) → ⊥
-    go (inl b) = h d lo b z
-    go (inr b) =
-        let e : n / d * d ≡ n = div-mul_cancel d (dvd_of_mod-eq-zero d z) in
-        let low : n / d < x = (div-lt_iff_lt-mul {k = d} {x = n} {y = x} (omega arith)).1 (omega (arith, mul-le-mul_left x b)) in
-        h (n / d) (proper (n / d) d n e hi) low (mod-eq-zero_of_dvd (n / d) (subst (λ (m : ℕ). n / d ∣ m) e (dvd-mul_right (n / d) d)))
+    go : (b : Bool) → ltb x 64 ≡ b → pick b true (eqb x n) ≡ true → x ≡ n
+    go true e t' = absurd (omega (arith, ltb-true x 64 e))
+    go false e t' = eqb-true x n t'
 
-below_square : (n x : ℕ) → NoneBelow n x → n < x * x → n ≡ least_divisor n
+module _ (n x : ℕ) (pos : zero < n) (small : n < divisors_end) (t : both (leb 2 x) (divides n x) ≡ true) where
+  two : 2 ≤ x
+  two = leb-true 2 x (both_left (leb 2 x) (divides n x) t)
+
+  t₁ : divides n x ≡ true
+  t₁ = both_right (leb 2 x) (divides n x) t
+
+  t₂ : least n x ≡ true
+  t₂ = both_right (eqb (n % x) zero) (least n x) t₁
+
+  whole : n % x ≡ zero
+  whole = eqb-true (n % x) zero (both_left (eqb (n % x) zero) (least n x) t₁)
+
+  last : 64 < x → x ≡ n
+  last = large x n (both_left (pick (ltb x 64) true (eqb x n)) (none_from n (min x 64 - 2) 2) t₂)
+
+  tested : (e : ℕ) → 2 ≤ e → e < 2 + (min x 64 - 2) → n % e ≢ zero
+  tested = none_at n (min x 64 - 2) 2 (both_right (pick (ltb x 64) true (eqb x n)) (none_from n (min x 64 - 2) 2) t₂)
+
+  -- a divisor from 64 on has a cofactor below 64, which the test has ruled out
+  none_below : (d : ℕ) → 1 < d → d < x → n % d ≢ zero
+  none_below d lo hi z = go (dec_lt d 64)
+    where
+      go : Dec (d < 64) → ⊥
+      go (yes h) = tested d lo (omega (arith, two)) z
+      go (no h) =
+          let same : x ≡ n = last (omega arith) in
+          let e : n / d * d ≡ n = div-mul_cancel d (dvd_of_mod-eq-zero d z) in
+          let low : n / d < 64 = (div-lt_iff_lt-mul {k = d} {x = n} {y = 64} (omega arith)).1 (omega arith) in
+          let big : 2 ≤ n / d = proper (n / d) d n e (omega arith) in
+          tested (n / d) big (omega arith)
+          (mod-eq-zero_of_dvd (n / d) (subst (λ (m : ℕ). n / d ∣ m) e (dvd-mul_right (n / d) d)))
+
+  passes : IsLeastDivisor n x
+  passes = record { big = two; most = le_of_dvd pos (dvd_of_mod-eq-zero x whole); divides = whole; none = none_below }
+
+-- an entry that passes is the least divisor
+entry_is : (i x : ℕ) → 2 * i + 1 < divisors_end → entry i x ≡ true → x ≡ least_divisor (2 * i + 1)
 unfolding least_divisor first
-below_square zero x h l = refl
-below_square (suc zero) x h l = refl
-below_square (suc (suc k)) x h l =
-    let n = suc (suc k) in
-    is_least_divisor n n (omega arith) (record { big = omega arith; most = omega arith; divides = mod_self n; none = square_none n x h l })
+entry_is zero x h t = eqb-true x 1 t
+entry_is (suc i) x h t =
+    is_least_divisor (2 * suc i + 1) x (omega arith) (passes (2 * suc i + 1) x (omega arith) h t)
 
--- ---- the table
+-- ---- the whole table
 
--- a list that is found to be the primes has each at its place
-pub of_table : (xs : List ℕ) → xs ≡ primes → (i : ℕ) → at xs i ≡ at primes i
-of_table xs e i = ap (λ (ys : List ℕ). at ys i) e
+-- every entry passes at its place, counted from i
+abbrev pub all_from : (ℕ → ℕ → Bool) → ℕ → List ℕ → Bool
+all_from f i [] = true
+all_from f i (x ∷ xs) = both (f i x) (all_from f (suc i) xs)
 
-prime_count_lem : length primes ≡ prime_count
-unfolding primes primes_from least_divisor first
-prime_count_lem = refl
+from : (f : ℕ → ℕ → Bool) (xs : List ℕ) (i : ℕ) → all_from f i xs ≡ true → (k : ℕ) → k < length xs → f (i + k) (get_or xs k zero) ≡ true
+from f [] i t k h = absurd (not-suc-le-zero h)
+from f (x ∷ xs) i t zero h = ap (λ (m : ℕ). f m x) (add-zero i) ∙ both_left (f i x) (all_from f (suc i) xs) t
+from f (x ∷ xs) i t (suc k) h =
+    ap (λ (m : ℕ). f m (get_or xs k zero)) (add-suc i k ∙ sym (suc-add i k))
+    ∙ from f xs (suc i) (both_right (f i x) (all_from f (suc i) xs) t) k (le_of_suc-le-suc h)
 
-pub prime_big : (i : ℕ) → i < prime_count → 1 < at primes i
-unfolding primes
-prime_big i h = entry_big 256 zero i (omega (arith, prime_count_lem))
+-- a table whose entries pass has the least divisor of each odd number at its place
+pub table_rule : (xs : List ℕ) (i : ℕ) → 2 * i + 1 < divisors_end → 2 * length xs ≡ divisors_end → all_from entry zero xs ≡ true → get_or xs i zero ≡ least_divisor (2 * i + 1)
+table_rule xs i h e t =
+    entry_is i (get_or xs i zero) h (ap (λ (j : ℕ). entry j (get_or xs i zero)) (sym (zero-add i)) ∙ from entry xs zero t i (omega arith))
 
--- ---- the loop
+-- ---- every number
 
--- none of the first i primes divides n
-pub record Tried (n i : ℕ) : Type 0 where
-  pub most : i ≤ prime_count
-  pub none : NoneOf primes n i
+-- 0 stands for itself
+pub of_zero : (n : ℕ) → n ≡ zero → zero ≡ least_divisor n
+unfolding least_divisor first
+of_zero n h = sym (ap least_divisor h)
 
-pub tried_start : (n : ℕ) → Tried n zero
-tried_start n = record { most = omega arith; none = λ j b z. omega arith }
+-- 2 is the least number that can divide, and it does
+pub of_even : (n : ℕ) → n ≢ zero → n % 2 ≡ zero → 2 ≡ least_divisor n
+of_even n h e =
+    is_least_divisor n 2 (omega arith)
+    (record { big = omega arith; most = omega arith; divides = e; none = λ (d : ℕ) lo hi z. omega arith })
 
-pub tried_next : (n i p : ℕ) → p ≡ at primes i → i < prime_count → Tried n i → n % p ≢ zero → Tried n (i + 1)
-tried_next n i p e l x z = record { most = omega arith; none = none }
-  where
-    none : NoneOf primes n (i + 1)
-    none j b w = go (ℕ_discrete j i)
-      where
-        go : Dec (j ≡ i) → ⊥
-        go (yes same) = z (subst (λ (y : ℕ). n % y ≡ zero) (ap (at primes) same ∙ sym e) w)
-        go (no other) = x.none j (omega arith) w
-
--- no number below the next prime divides n
-below_next : (n i : ℕ) → i < prime_count → Tried n i → NoneBelow n (at primes i)
-unfolding primes
-below_next n i l x = none_before 256 zero n i (λ d lo hi z. omega arith) x.none (omega (arith, prime_count_lem))
-
--- a square above n, the next prime that divides it, no prime left
-pub tried_square : (n i p : ℕ) → p ≡ at primes i → i < prime_count → Tried n i → n < p * p → n ≡ least_divisor n
-tried_square n i p e l x h = below_square n p (subst (NoneBelow n) (sym e) (below_next n i l x)) h
-
-pub tried_divides : (n i p : ℕ) → p ≡ at primes i → i < prime_count → Tried n i → p * p ≤ n → n % p ≡ zero → p ≡ least_divisor n
-tried_divides n i p e l x h z =
-    let big : 1 < p = subst (λ (y : ℕ). 1 < y) (sym e) (prime_big i l) in
-    let most : p ≤ n = omega (arith, mul-le-mul_left p big) in
-    is_least_divisor n p (omega arith) (record { big = big; most = most; divides = z; none = subst (NoneBelow n) (sym e) (below_next n i l x) })
-
-pub tried_all : (n : ℕ) → n < divisors_end → Tried n prime_count → n ≡ least_divisor n
-unfolding primes
-tried_all n h x =
-    below_square n 256 (none_through 256 zero n (λ d lo hi z. omega arith) (subst (NoneOf primes n) (sym prime_count_lem) x.none)) (omega arith)
+-- an odd number is 2 i + 1, where i is half of it
+pub of_odd : (n x : ℕ) → n % 2 ≢ zero → x ≡ least_divisor (2 * (n / 2) + 1) → x ≡ least_divisor n
+of_odd n x h e = let back : 2 * (n / 2) + 1 ≡ n = omega arith in e ∙ ap least_divisor back

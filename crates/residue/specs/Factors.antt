@@ -13,9 +13,9 @@ least_divisor n = first n (λ d. both (leb 2 d) (eqb (n % d) zero))
 abbrev pub is_prime : ℕ → Bool
 is_prime n = both (leb 2 n) (eqb (least_divisor n) n)
 
--- the numbers whose least divisors are found stop before this one, 256 squared: the primes below 256 suffice for them
+-- the numbers whose least divisors are at hand stop before this one
 abbrev pub divisors_end : ℕ
-divisors_end = 65536
+divisors_end = 4096
 
 pub record PrimePower : Type 0 where
   pub prime : ℕ

@@ -3,9 +3,7 @@ ghost use Rattle.std.specs.Prelude.{◌≡◌, ◌+◌, ◌*◌, ◌/◌, ◌%�
 ghost use Rattle.residue.specs.Congruence.{neg};
 ghost use Rattle.residue.specs.Units.{Coprime, Bezout, inverse};
 ghost use Rattle.residue.specs.Valuation.{valuation, cofactor};
-ghost use Rattle.lists.specs.Table.{at};
 ghost use Rattle.residue.specs.Factors.{divisors_end, least_divisor, least_power, value};
-ghost use Rattle.residue.specs.Primes.{primes, prime_count};
 ghost use Rattle.residue.specs.Remainders.{joined, two};
 ghost use Rattle.residue.specs.Reduction.{scale_of};
 ghost use Rattle.residue.specs.Signed.{residue_of};
@@ -13,10 +11,10 @@ ghost use Rattle.residue.specs.Common.{common_divisor};
 
 mod table;
 
-use table::PRIMES;
+use table::LEAST;
 
-// How many primes there are below 256. Every product below 65,536 has one of them as a divisor.
-const PRIME_COUNT: usize = 54;
+// How many odd numbers there are below 4,096, where the table of least divisors stops.
+const ODD_NUMBERS: usize = 2048;
 
 // 2^48. To divide by it is a shift.
 const TWO_48: u64 = 281474976710656;
@@ -154,32 +152,27 @@ pub fn reduce(x: u32, q: u32, m: u64) -> u32
     x - (t as u32) * q
 }
 
-// The prime at place i of the table.
-fn prime_at(i: usize) -> u8
-    requires { i < prime_count }
-    ensures { result ≡ at primes i }
+// The least prime divisor of the odd number 2 i + 1, from the table. The array is made anew at each call: call it once for a prime, not for each term.
+fn least_of_odd(i: usize) -> u16
+    requires { 2 * i + 1 < divisors_end }
+    ensures { result ≡ least_divisor (2 * i + 1) }
 {
-    PRIMES[i]
+    LEAST[i]
 }
 
-// The least prime divisor of n, by division. Where no prime below p divides n and n is below p^2, n has no divisor but itself; 0 and 1 are below 2^2.
-// Rejected: a prime missing from the table; 63,001, which is 251^2, for its own divisor; 2 for 0, which stands for itself.
-fn least_divisor(n: u32) -> u32
+// The least prime divisor of n. Only an odd number is looked up: 2 divides every even one.
+// Rejected: 4 looked up as 5; 2 for 0, which stands for itself.
+fn least_divisor(n: usize) -> u16
     requires { n < divisors_end }
     ensures { result ≡ least_divisor n }
 {
-    let mut i: usize = 0;
-    while i < PRIME_COUNT {
-        let p = prime_at(i) as u32;
-        if n < p * p {
-            return n;
-        }
-        if n % p == 0 {
-            return p;
-        }
-        i += 1;
+    if n == 0 {
+        return 0;
     }
-    n
+    if n % 2 == 0 {
+        return 2;
+    }
+    least_of_odd(n / 2)
 }
 
 // The least prime of a number with its exponent there, their power, and what is left of the number.
@@ -197,7 +190,7 @@ pub fn split(m: u32) -> Factor
     ensures { (result.prime ≡ (least_power m).prime) × (result.exponent ≡ (least_power m).exponent)
         × (result.value ≡ value (least_power m)) × (result.rest ≡ m / value (least_power m)) }
 {
-    let p = least_divisor(m);
+    let p = least_divisor(m as usize) as u32;
     let w = weigh(m, p, m as usize);
     let v = power(p, w.u);
     Factor {

@@ -5,7 +5,7 @@ use Rattle.steps.specs.Sizes as Sizes
 
 -- moduli go from 2 to this one
 abbrev pub max_modulus : ℕ
-max_modulus = 65535
+max_modulus = 4095
 
 -- the arrays have no more places for terms
 abbrev pub max_terms : ℕ

@@ -14,7 +14,7 @@ use steps::{CELLS, LOG, StepRecord, TERMS};
 use synthesis::Synthesis;
 
 // The largest modulus.
-pub const MAX_MODULUS: u32 = 65535;
+pub const MAX_MODULUS: u32 = 4095;
 
 // The number of terms that there is room for, as counts and lengths are held.
 pub const MAX_TERMS: u32 = TERMS as u32;
@@ -145,7 +145,7 @@ fn fresh(modulus: u32) -> Sequence
 }
 
 // A fresh sequence for a modulus within the limits; else one of zeros, with the refusal.
-// Rejected: an open that takes 65,536; one that refuses 1 but hands back a sequence modulo 1.
+// Rejected: an open that takes 4,096; one that refuses 1 but hands back a sequence modulo 1.
 pub fn open(modulus: u32) -> Opened
     ensures value { result ≡ open_of modulus }
     ensures outcome_value { outcome_answer result.outcome ≡ open_answer modulus }

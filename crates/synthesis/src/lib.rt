@@ -90,7 +90,7 @@ fn extend(
 }
 
 // a and the lengths, and the records of the steps, from the prime powers of the modulus, the least prime first. Replies whether the modulus is
-// prime: the primes are at hand here, and to find its least divisor once more would take up to 54 divisions a second time.
+// prime: the primes are at hand here, and to look its least divisor up once more would make the table of divisors a second time.
 // Rejected: a prime power taken for a prime; every modulus; 2 not taken for one.
 fn gather(
     modulus: u32,

@@ -44,7 +44,7 @@ fn fits(m: u32, n: usize, s: &[u32; TERMS]) -> bool
 }
 
 // The steps at the prime power of the least prime of m, on the first n terms: a of row 0 and its lengths, and whether they were written.
-// Rejected: one that takes modulus 65,536; one that writes and says that it did not.
+// Rejected: one that takes modulus 4,096; one that writes and says that it did not.
 #[unsafe(no_mangle)]
 pub extern "C" fn timing_steps(
     m: u32,

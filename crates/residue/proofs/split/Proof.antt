@@ -9,6 +9,9 @@ use Rattle.residue.proofs.split.Tie as tie
 least-divisor-requires : tie.Need-least-divisor-requires
 least-divisor-requires c κs = search rules
 
+cast-p : tie.Need-overflow-cast-p
+cast-p c = search rules
+
 weigh-requires : tie.Need-weigh-requires
 weigh-requires c κs = omega (arith, c.least-divisor.ensures, (least_divisor_lem c.before.args.m c.before.requires.0).big)
 
@@ -30,4 +33,4 @@ returns c =
 
 pub split-spec : {M : Type 1} → statement M
 split-spec =
-    tie.close (tie.spec least-divisor-requires weigh-requires power-requires returns)
+    tie.close (tie.spec least-divisor-requires cast-p weigh-requires power-requires returns)
