@@ -2,6 +2,8 @@
 //
 // Each reply is one number, as C gets it from looking up: 0 is made, 256 times 1 + the place is found, else it is a refusal. While the walk goes,
 // 0 says that the query looks, so that the lent replies are all that the walk must remember; a record that is met goes to its part at once.
+#![tactic(auto)]
+
 ghost use Rattle.std.specs.Prelude.{◌≡◌, ◌+◌, ◌*◌, ◌%◌, ◌≤◌, ◌<◌, length, replicate};
 ghost use Rattle.lists.specs.Table.{tabulate};
 ghost use Rattle.sequence.specs.Limits.{query_bytes};

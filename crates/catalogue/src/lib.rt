@@ -1,4 +1,6 @@
 // Records and catalogues (the paper's shelf): making the record of a query, and looking one up.
+#![tactic(auto)]
+
 ghost use Rattle.std.specs.Prelude.{◌≡◌, ◌++◌, ◌+◌, ◌*◌, ◌/◌, ◌≤◌, ◌<◌, eqb, length};
 ghost use Rattle.sequence.specs.Limits.{query_bytes};
 ghost use Rattle.lists.specs.Choice.{pick};

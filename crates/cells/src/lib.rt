@@ -1,4 +1,6 @@
 // Two-byte cells in byte slices, low byte first.
+#![tactic(auto)]
+
 ghost use Rattle.std.specs.Prelude.{◌≡◌, ◌+◌, ◌*◌, ◌<◌, length};
 ghost use Rattle.cells.specs.Cell.{cell_at, put_cell, bytes_of, equal};
 

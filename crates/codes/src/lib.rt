@@ -1,4 +1,6 @@
 // An answer as one number: the refusal's number and 256 times a value. So C gets a reply, and so a batch tells that of each query.
+#![tactic(auto)]
+
 ghost use Rattle.std.specs.Prelude.{◌≡◌, [], ◌∷◌, ◌≤◌, ◌<◌, min};
 ghost use Rattle.sequence.specs.Answers.{granted, refusal};
 ghost use Rattle.codes.specs.Codes.{last_place, code_of, counts_code_of};

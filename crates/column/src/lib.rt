@@ -1,4 +1,6 @@
 // A column of terms, pushed in one call.
+#![tactic(auto)]
+
 ghost use Rattle.std.specs.Prelude.{◌≡◌};
 ghost use Rattle.sequence.specs.declared.Outcome.TheVariants.{Refused};
 ghost use Rattle.sequence.specs.Answers.{outcome_answer};

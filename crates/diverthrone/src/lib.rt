@@ -1,4 +1,6 @@
 // The functions for C. A slice passes as a pointer and a length; include/diverthrone.h has the declarations.
+#![tactic(auto)]
+
 ghost use Rattle.std.specs.Prelude.{◌≡◌};
 ghost use Rattle.sequence.specs.Report.{filled};
 ghost use Rattle.candidate.specs.Rules.{verify_answer, generate_of, generate_answer, generated_in};

@@ -1,4 +1,6 @@
 // The sequences of n terms modulo m: the one with a number, and how many of them have each length.
+#![tactic(auto)]
+
 ghost use Rattle.std.specs.Prelude.{◌≡◌, ◌∷◌, suc, ◌+◌, ◌^◌, ◌≤◌, ◌<◌, min, length, set};
 ghost use Rattle.lists.specs.Table.{at, tabulate};
 ghost use Rattle.cells.specs.Cell.{bytes_of};

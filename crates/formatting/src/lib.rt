@@ -1,5 +1,7 @@
 // The listing's lines as bytes in a lent buffer, and the line of a working that says whether a register is the only one; the census's lines,
 // and the reading of a typed line that asks for one.
+#![tactic(auto)]
+
 ghost use Rattle.std.specs.Prelude.{◌≡◌, true, [], ◌∷◌, suc, ◌+◌, ◌*◌, ◌-◌, ◌≤◌, ◌<◌, length};
 ghost use Rattle.io.specs.Counts.{IsPrefixLen};
 ghost use Rattle.lists.specs.Table.{tabulate};

@@ -1,6 +1,8 @@
 // The claims that speak of several calls: specs/ has them, proofs/ their proofs. `drive` drives a list of pushes, columns, registers and
 // profiles through the calls themselves; its contract says what they all do together, and the claim about every such list. (A trace has no
 // code there: it is lent a slice of structs.) `walk_along` has the claim about the walk of a batch.
+#![tactic(auto)]
+
 ghost use Rattle.std.specs.Prelude.{◌≡◌, ◌*◌, ◌≤◌, length};
 ghost use Rattle.sequence.specs.Limits.{max_modulus, a_bytes, b_bytes, profile_bytes};
 ghost use Rattle.catalogue.specs.Rules.{record_bytes, records};

@@ -1,5 +1,7 @@
 // Typed lines: "mod 9: 6,3,1,-4,6" is read into the query that a person would write by hand. The reading is an automaton over classes of
 // bytes, beside it the number that is being read; specs/Form has the form of a line as a grammar.
+#![tactic(auto)]
+
 ghost use Rattle.std.specs.Prelude.{◌≡◌, true, ◌∷◌, ◌+◌, ◌*◌, ◌-◌, ◌^◌, ◌≤◌, ◌<◌, eqb, ltb, pos, length, get_or, replicate};
 ghost use Rattle.lists.specs.Choice.{pick};
 ghost use Rattle.lists.specs.Table.{tabulate};

@@ -1,4 +1,6 @@
 // Two queries of the same sequence modulo two moduli, merged to one query modulo their least common multiple.
+#![tactic(auto)]
+
 ghost use Rattle.std.specs.Prelude.{◌≡◌, ℕ, ◌*◌, ◌%◌, ◌≤◌, ◌<◌, ltb, length};
 ghost use Rattle.lists.specs.Choice.{pick};
 ghost use Rattle.lists.specs.Table.{at, tabulate};

@@ -1,4 +1,6 @@
 // The length of a binary sequence of period 1, 2, 4, .. 64, by halving one period.
+#![tactic(auto)]
+
 ghost use Rattle.std.specs.Prelude.{◌≡◌, ℕ, suc, ◌+◌, ◌*◌, ◌/◌, ◌%◌, ◌^◌, ◌≤◌, ◌<◌, length};
 ghost use Rattle.lists.specs.Table.{at};
 ghost use Rattle.cells.specs.Cell.{cell_at, cells_from};

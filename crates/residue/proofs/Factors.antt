@@ -244,15 +244,18 @@ prime_powers_lem p P =
 -- ---- a fact at every prime power
 
 pub among_prime : {m : ℕ} {fs : List PrimePower} {f : PrimePower} → Factored m fs → Among f fs → Prime f.prime
+among_prime {f = f} one k = elim k [ ]
 among_prime (more P e h pos F) here = P
 among_prime (more P e h pos F) (there k) = among_prime F k
 
 pub among_exponent : {m : ℕ} {fs : List PrimePower} {f : PrimePower} → Factored m fs → Among f fs → zero < f.exponent
+among_exponent {f = f} one k = elim k [ ]
 among_exponent (more P e h pos F) here = e
 among_exponent (more P e h pos F) (there k) = among_exponent F k
 
 -- a congruence modulo m holds at each of its prime powers
 pub among_cong : {m : ℕ} {fs : List PrimePower} {f : PrimePower} {x y : ℕ} → Factored m fs → Among f fs → Cong m x y → Cong (value f) x y
+among_cong {f = f} {y = y} one k c = elim k [ ]
 among_cong (more {rest = R} {f = f} P e h pos F) here c = cong_left (value f) R c
 among_cong (more {rest = R} {f = f} P e h pos F) (there k) c = among_cong F k (cong_right (value f) R c)
 

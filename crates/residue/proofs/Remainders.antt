@@ -171,7 +171,7 @@ module _ (r : PrimePower → ℕ) where
   factored_joined {m} {fs} F small = let x = factored_some F small in joined_leaves m (rests r fs) x.0 x.1 x.2
 
   -- its remainder at each of the prime powers
-  pub leaves_at : {fs : List PrimePower} {f : PrimePower} (x : ℕ) → Among f fs → Leaves x (rests r fs) → x % value f ≡ r f
+  pub leaves_at : {f : PrimePower} {fs : List PrimePower} (x : ℕ) → Among f fs → Leaves x (rests r fs) → x % value f ≡ r f
   leaves_at x here (also l ls) = l
   leaves_at x (there h) (also l ls) = leaves_at x h ls
 

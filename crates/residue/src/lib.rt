@@ -1,4 +1,6 @@
 // Numbers modulo m, by value. Moduli are below 65,536, so that a product of two residues fits 32 bits.
+#![tactic(auto)]
+
 ghost use Rattle.std.specs.Prelude.{◌≡◌, ◌+◌, ◌*◌, ◌/◌, ◌%◌, ◌^◌, ◌≤◌, ◌<◌};
 ghost use Rattle.residue.specs.Congruence.{neg};
 ghost use Rattle.residue.specs.Units.{Coprime, Bezout, inverse};

@@ -1,5 +1,7 @@
 // A sequence of terms modulo m (the paper's reading): opening one, pushing a term, its register, its profile and the working of its
 // register; what is wrong with one, and the query that writes one down.
+#![tactic(auto)]
+
 ghost use Rattle.std.specs.Prelude.{◌≡◌, ◌≤◌, ◌<◌, length, ◌++◌};
 ghost use Rattle.cells.specs.Cell.{bytes_of};
 ghost use Rattle.steps.specs.Sizes.{log_words};

@@ -2,6 +2,8 @@
 //
 // Of each row only a is kept. The theorems of `recurrence` are the reason: a discrepancy needs no b (`d_of_a`), lengths follow a law in
 // which no degree occurs (`length_stays`, `length_kept`, `length_grows`), and b follows from a (`generates` of `register_right`).
+#![tactic(auto)]
+
 ghost use Rattle.std.specs.Prelude.{◌≡◌, [], ℕ, suc, ◌+◌, ◌-◌, ◌*◌, ◌%◌, ◌^◌, ◌≤◌, ◌<◌, length, get_or};
 ghost use Rattle.lists.specs.Table.{at};
 ghost use Rattle.residue.specs.Reduction.{scale_of};

@@ -1,4 +1,6 @@
 // The register modulo m: the steps at each prime power of m, joined by remainders (Reeds and Sloane, section 3).
+#![tactic(auto)]
+
 ghost use Rattle.std.specs.Prelude.{◌≡◌, ℕ, ◌+◌, ◌*◌, ◌≤◌, ◌<◌, length, get_or};
 ghost use Rattle.lists.specs.Table.{at, tabulate};
 ghost use Rattle.residue.specs.Units.{Coprime};

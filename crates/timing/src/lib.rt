@@ -1,5 +1,7 @@
 // Entry points for the benchmark in bench/, and for nothing else: parts of the work that the C interface does not show by themselves.
 // Like the public calls they take any input.
+#![tactic(auto)]
+
 ghost use Rattle.std.specs.Prelude.{◌≡◌, ℕ, ◌≤◌};
 ghost use Rattle.lists.specs.Choice.{pick};
 ghost use Rattle.lists.specs.Sum.{sum_to};

@@ -3,18 +3,13 @@
 use mathlib.Core.Path.{◌∙◌}
 use native.Mathlib.Nat.{mod-lt}
 use native.Mathlib.Omega.{arith}
-use borrow.Author.Rules.{rules}
 use Rattle.residue.specs.Units.{Coprime}
 use Rattle.residue.proofs.Units.{smaller_pos, smaller_coprime, coprime_invertible, inverse_mod}
 use Rattle.residue.proofs.Remainders.{factor_right}
-use Rattle.residue.proofs.joiner.Statement.{statement}
-use Rattle.residue.proofs.joiner.Tie as tie
+use Rattle.residue.proofs.joiner.Goals as goal
 
-rem-inverse : tie.Need-nonzero-rem-inverse
-rem-inverse c = search rules
-
-inverse-requires : tie.Need-inverse-requires
-inverse-requires c κs =
+pub inverse-requires : goal.inverse-requires
+inverse-requires c =
     let a = c.args in
     let co : Coprime a.q a.big = λ d x y. c.requires.3 d y x in (
       smaller_pos a.q a.big c.requires.1 co,
@@ -23,11 +18,7 @@ inverse-requires c κs =
       smaller_coprime a.q a.big co,
     )
 
-returns : tie.Need-returns
+pub returns : goal.returns
 returns c =
-    let z = c.before in
-    let a = z.args in
-    c.inverse.ensures ∙ inverse_mod a.q a.big (omega arith) (coprime_invertible a.big a.q z.requires.0 (omega arith) z.requires.3)
-
-pub joiner-spec : {M : Type 1} → statement M
-joiner-spec = tie.close (tie.spec rem-inverse inverse-requires returns)
+    let a = c.args in
+    c.inverse.ensures ∙ inverse_mod a.q a.big (omega arith) (coprime_invertible a.big a.q c.requires.0 (omega arith) c.requires.3)
