@@ -5,7 +5,6 @@ use mathlib.Core.List.{List, ◌∷◌, map}
 use Prim.Native.Nat.{ℕ, zero, suc, ◌%◌, ◌^◌, ◌≤◌, ◌<◌}
 use native.Mathlib.Nat.{le_antisymm, mod-eq_of_lt, pow-zero}
 use native.Mathlib.Omega.{arith}
-use lib.ListN.{length}
 use Rattle.lists.specs.Table.{at, largest}
 use Rattle.lists.proofs.Table.{at_tabulate_all}
 use Rattle.lists.proofs.Among.{Among, map_map, largest_most, largest_least}

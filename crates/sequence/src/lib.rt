@@ -34,7 +34,7 @@ const PROFILE_BYTES: usize = 2 * CELLS;
 const REGISTER_BYTES: usize = A_BYTES + B_BYTES;
 
 // A reading: terms past the count are zero.
-#[derive(Drop)]
+#[derive(Clone, Copy)]
 pub struct Sequence {
     pub modulus: u32,
     pub count: u32,
@@ -43,7 +43,7 @@ pub struct Sequence {
 
 // Why a call was not done, or the rest of a column. `Answers.refusal` has the paper's number of each. A wrong term, or digit of a period, has its place, counted from 0, and
 // so have the byte that breaks a typed line's form, the digit that passes its range, and two terms that disagree.
-#[derive(Drop)]
+#[derive(Clone, Copy)]
 pub enum Refusal {
     Modulus,
     Count,
@@ -68,20 +68,20 @@ pub enum Refusal {
 }
 
 // The place that a refusal carries.
-#[derive(Drop)]
+#[derive(Clone, Copy)]
 pub enum Place {
     At(usize),
     Nowhere,
 }
 
-#[derive(Drop)]
+#[derive(Clone, Copy)]
 pub enum Outcome {
     Done,
     Refused(Refusal),
 }
 
 // Whether the register is the only one of its length that generates the terms. It is told for a prime modulus, and for no other.
-#[derive(Drop)]
+#[derive(Clone, Copy)]
 pub enum Uniqueness {
     Sole,
     Several,
@@ -89,33 +89,33 @@ pub enum Uniqueness {
 }
 
 // What a register's reply is: its length, and whether it is the only one.
-#[derive(Drop)]
+#[derive(Clone, Copy)]
 pub enum Reported {
     Length(u32, Uniqueness),
     Refused(Refusal),
 }
 
 // A trace's reply, and how many records it has for the sheet: none where it is refused.
-#[derive(Drop)]
+#[derive(Clone, Copy)]
 pub struct Worked {
     pub reply: Reported,
     pub count: usize,
 }
 
-#[derive(Drop)]
+#[derive(Clone, Copy)]
 pub struct Opened {
     pub sequence: Sequence,
     pub outcome: Outcome,
 }
 
-#[derive(Drop)]
+#[derive(Clone, Copy)]
 pub struct Pushed {
     pub sequence: Sequence,
     pub outcome: Outcome,
 }
 
 // The sequence that a query writes down, and whether the query is refused.
-#[derive(Drop)]
+#[derive(Clone, Copy)]
 pub struct Checked {
     pub sequence: Sequence,
     pub outcome: Outcome,

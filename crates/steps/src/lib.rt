@@ -28,7 +28,7 @@ pub const ROWS: usize = 15;
 pub const LOG: usize = ROWS * TERMS;
 
 // The ring in which the steps go: p, e, q = p^e, and q's `residue::scale`.
-#[derive(Drop)]
+#[derive(Clone, Copy)]
 pub struct Ring {
     pub p: u32,
     pub e: usize,
@@ -38,7 +38,7 @@ pub struct Ring {
 
 // One row at one step, in the manner of Table 2: the prime power, k, the row's number and its length before the step, u, theta, g (e where
 // the row stays), and the case: 1 stays, 2 added to b, 3 cancelled by an older row.
-#[derive(Drop)]
+#[derive(Clone, Copy)]
 pub struct StepRecord {
     pub power: u32,
     pub k: u32,
@@ -51,7 +51,7 @@ pub struct StepRecord {
 }
 
 // What a record tells of a row's partner: g, and the case.
-#[derive(Drop)]
+#[derive(Clone, Copy)]
 struct Told {
     g: usize,
     case: u32,

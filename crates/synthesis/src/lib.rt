@@ -16,7 +16,7 @@ ghost use Rattle.synthesis.specs.Synthesis.{length_at, synthesis_of};
 use steps::{CELLS, Ring, TERMS};
 
 // The shortest register of the first terms, and the linear complexity of the first 0, 1, .. of them; and whether the modulus is prime.
-#[derive(Drop)]
+#[derive(Clone, Copy)]
 pub struct Synthesis {
     pub length: u32,
     pub a: [u32; CELLS],
