@@ -24,9 +24,9 @@ use Rattle.sequence.specs.Report.{register_told, register_answer, report_of, rep
 
 -- Each law takes the equation of a reply, and what is promised beside it, and adds the answer: the whole promise of the call.
 
-pub open_told : (m : ℕ) {r : Opened} → r ≡ open_of m → (r ≡ open_of m) × (outcome_answer r.outcome ≡ open_answer m)
+pub open_told : (m : ℕ) {r : Opened} → r ≡ open_of m → record { value : r ≡ open_of m; outcome_value : outcome_answer r.outcome ≡ open_answer m }
 unfolding open_of first_of
-open_told m e = (e, ap (λ (x : Opened). outcome_answer x.outcome) e ∙ go (outside m))
+open_told m e = record { value = e; outcome_value = ap (λ (x : Opened). outcome_answer x.outcome) e ∙ go (outside m) }
   where
     bad : Opened
     bad = record { sequence = fresh 0; outcome = Refused R.Modulus }
@@ -38,9 +38,9 @@ open_told m e = (e, ap (λ (x : Opened). outcome_answer x.outcome) e ∙ go (out
     go true = refl
     go false = refl
 
-pub push_told : (s : Sequence) (t : ℕ) {r : Pushed} → r ≡ push_of s t → (r ≡ push_of s t) × (outcome_answer r.outcome ≡ push_answer s t)
+pub push_told : (s : Sequence) (t : ℕ) {r : Pushed} → r ≡ push_of s t → record { value : r ≡ push_of s t; outcome_value : outcome_answer r.outcome ≡ push_answer s t }
 unfolding push_of first_of
-push_told s t e = (e, ap (λ (x : Pushed). outcome_answer x.outcome) e ∙ go (is_sound (fault_of s)) (eqb s.count max_terms) (leb s.modulus t))
+push_told s t e = record { value = e; outcome_value = ap (λ (x : Pushed). outcome_answer x.outcome) e ∙ go (is_sound (fault_of s)) (eqb s.count max_terms) (leb s.modulus t) }
   where
     with : Sequence → Outcome → Pushed
     with x o = record { sequence = x; outcome = o }
@@ -54,9 +54,9 @@ push_told s t e = (e, ap (λ (x : Pushed). outcome_answer x.outcome) e ∙ go (i
     go true false true = refl
     go true false false = refl
 
-pub report_told : (s : Sequence) (a b : List ℕ) {r : Reported} {A B : Type 0} → r ≡ report_of s a b → A → B → (r ≡ report_of s a b) × (A × (B × (reported_answer r ≡ report_answer s a b)))
+pub report_told : (s : Sequence) (a b : List ℕ) {r : Reported} {A B : Type 0} → r ≡ report_of s a b → A → B → record { value : r ≡ report_of s a b; a_after : A; b_after : B; result_value : reported_answer r ≡ report_answer s a b }
 unfolding report_of first_of
-report_told s a b e x y = (e, (x, (y, ap reported_answer e ∙ go (eqb (length a) a_bytes) (eqb (length b) b_bytes) (is_sound (fault_of s)))))
+report_told s a b e x y = record { value = e; a_after = x; b_after = y; result_value = ap reported_answer e ∙ go (eqb (length a) a_bytes) (eqb (length b) b_bytes) (is_sound (fault_of s)) }
   where
     go :
         (x y z : Bool)
@@ -67,9 +67,9 @@ report_told s a b e x y = (e, (x, (y, ap reported_answer e ∙ go (eqb (length a
     go true true false = refl
     go true true true = refl
 
-pub profile_told : (s : Sequence) (cells : List ℕ) {r : Outcome} {A : Type 0} → r ≡ profile_of s cells → A → (r ≡ profile_of s cells) × (A × (outcome_answer r ≡ profile_answer s cells))
+pub profile_told : (s : Sequence) (cells : List ℕ) {r : Outcome} {A : Type 0} → r ≡ profile_of s cells → A → record { value : r ≡ profile_of s cells; cells_after : A; result_value : outcome_answer r ≡ profile_answer s cells }
 unfolding profile_of first_of
-profile_told s cells e x = (e, (x, ap outcome_answer e ∙ go (eqb (length cells) profile_bytes) (is_sound (fault_of s))))
+profile_told s cells e x = record { value = e; cells_after = x; result_value = ap outcome_answer e ∙ go (eqb (length cells) profile_bytes) (is_sound (fault_of s)) }
   where
     go :
         (x z : Bool)
