@@ -34,10 +34,10 @@ candidate_told m l a b x = go (ltb max_terms l) (not (fits m l a b)) (not (eqb (
     go false false false = refl
 
 -- Each law takes the equation of a reply, and what is promised beside it, and adds the answer: the whole promise of the call.
-pub verify_told : (query a b : List ℕ) (l : ℕ) {r : Verdict} → r ≡ verify_of query a b l → (r ≡ verify_of query a b l) × (verdict_answer r ≡ verify_answer query a b l)
+pub verify_told : (query a b : List ℕ) (l : ℕ) {r : Verdict} → r ≡ verify_of query a b l → record { value : r ≡ verify_of query a b l; result_value : verdict_answer r ≡ verify_answer query a b l }
 unfolding verify_of verify_answer judge_of first_of
 verify_told query a b l e =
-    (e, ap verdict_answer e ∙ go (eqb (length a) a_bytes) (eqb (length b) b_bytes) (query_told query rest v))
+    record { value = e; result_value = ap verdict_answer e ∙ go (eqb (length a) a_bytes) (eqb (length b) b_bytes) (query_told query rest v) }
   where
     s : Sequence
     s = sequence_of query
@@ -72,10 +72,10 @@ verify_told query a b l e =
 
 pub generate_told :
     (m : ℕ) (a b : List ℕ) (l : ℕ) (cells : List ℕ) {r : Outcome} {A : Type 0} → r ≡ generate_of m a b l cells → A
-    → (r ≡ generate_of m a b l cells) × (A × (outcome_answer r ≡ generate_answer m a b l cells))
+    → record { value : r ≡ generate_of m a b l cells; out_after : A; result_value : outcome_answer r ≡ generate_answer m a b l cells }
 unfolding generate_of generate_answer first_of
 generate_told m a b l cells e x =
-    (e, (x, ap outcome_answer e ∙ go (eqb (length a) a_bytes) (eqb (length b) b_bytes) (eqb (length cells % 2) 0) (outside m) (ltb max_terms (length cells / 2))))
+    record { value = e; out_after = x; result_value = ap outcome_answer e ∙ go (eqb (length a) a_bytes) (eqb (length b) b_bytes) (eqb (length cells % 2) 0) (outside m) (ltb max_terms (length cells / 2)) }
   where
     flaw : Outcome
     flaw = flaw_of m l (a_cells a) (b_cells b)

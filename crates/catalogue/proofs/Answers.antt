@@ -21,9 +21,9 @@ use Rattle.catalogue.specs.Rules.{record_bytes, synthesize_of, synthesize_answer
 -- Each law takes the equation of a reply, and what is promised beside it, and adds the answer: the whole promise of the call.
 pub synthesize_told :
     (query out : List ℕ) {r : Outcome} {A : Type 0} → r ≡ synthesize_of query out → A
-    → (r ≡ synthesize_of query out) × (A × (outcome_answer r ≡ synthesize_answer query out))
+    → record { value : r ≡ synthesize_of query out; out_after : A; result_value : outcome_answer r ≡ synthesize_answer query out }
 unfolding synthesize_of synthesize_answer first_of
-synthesize_told query out e x = (e, (x, ap outcome_answer e ∙ go (eqb (length out) record_bytes)))
+synthesize_told query out e x = record { value = e; out_after = x; result_value = ap outcome_answer e ∙ go (eqb (length out) record_bytes) }
   where
     after : (o : Outcome) → outcome_answer o ≡ or_refused o (granted [])
     after O.Done = refl
@@ -38,9 +38,9 @@ synthesize_told query out e x = (e, (x, ap outcome_answer e ∙ go (eqb (length 
 
 pub look_up_told :
     (query catalogue out : List ℕ) {r : LookedUp} {A : Type 0} → r ≡ look_up_of query catalogue out → A
-    → (r ≡ look_up_of query catalogue out) × (A × (looked_up_answer r ≡ look_up_answer query catalogue out))
+    → record { value : r ≡ look_up_of query catalogue out; out_after : A; result_value : looked_up_answer r ≡ look_up_answer query catalogue out }
 unfolding look_up_of look_up_answer fetch_of first_of
-look_up_told query catalogue out e x = (e, (x, ap looked_up_answer e ∙ go (eqb (length out) record_bytes)))
+look_up_told query catalogue out e x = record { value = e; out_after = x; result_value = ap looked_up_answer e ∙ go (eqb (length out) record_bytes) }
   where
     i : ℕ
     i = first_match query catalogue (records catalogue)

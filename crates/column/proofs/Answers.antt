@@ -30,9 +30,9 @@ each_told =
     (λ s t ts r h room l k. rw (ne_eqb s.count max_terms (λ e. omega arith), lt-leb s.modulus t l) k)
 
 -- it takes the equation of the reply and gives the whole promise
-pub push_all_told : (s : Sequence) (list : List ℕ) {r : PushedAll} → r ≡ push_all_of s list → (r ≡ push_all_of s list) × (outcome_answer r.outcome ≡ push_all_answer s list)
+pub push_all_told : (s : Sequence) (list : List ℕ) {r : PushedAll} → r ≡ push_all_of s list → record { value : r ≡ push_all_of s list; outcome_value : outcome_answer r.outcome ≡ push_all_answer s list }
 unfolding push_all_of first_of
-push_all_told s list e = (e, ap (λ (r : PushedAll). outcome_answer r.outcome) e ∙ go (eqb (length list % 2) 0) (is_sound (fault_of s)) refl)
+push_all_told s list e = record { value = e; outcome_value = ap (λ (r : PushedAll). outcome_answer r.outcome) e ∙ go (eqb (length list % 2) 0) (is_sound (fault_of s)) refl }
   where
     go :
         (a b : Bool) → is_sound (fault_of s) ≡ b

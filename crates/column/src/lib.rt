@@ -10,7 +10,7 @@ ghost use Rattle.column.specs.Rules.{terms_in, took, each_of, push_all_of, push_
 use sequence::{MAX_TERMS, Outcome, Refusal, Sequence};
 
 // How many terms were taken, the refusal if any, and the sequence as it is then.
-#[derive(Drop)]
+#[derive(Clone, Copy)]
 pub struct PushedAll {
     pub sequence: Sequence,
     pub taken: usize,

@@ -19,10 +19,10 @@ use Rattle.enumeration.specs.Rules.{max_sequences, tally_bytes, counted_of, numb
 -- the whole promise of each call, as `push_told` (sequence) gives that of a push
 pub enumerate_told :
     (m n x : ℕ) (query : List ℕ) {r : Outcome} {A : Type 0} → r ≡ enumerate_of m n x query → A
-    → (r ≡ enumerate_of m n x query) × (A × (outcome_answer r ≡ enumerate_answer m n x query))
+    → record { value : r ≡ enumerate_of m n x query; query_after : A; result_value : outcome_answer r ≡ enumerate_answer m n x query }
 unfolding enumerate_of enumerate_answer counted_of first_of
 enumerate_told m n x query e z =
-    (e, (z, ap outcome_answer e ∙ go (eqb (length query) query_bytes) (outside m) (ltb max_terms n) (ltb max_sequences (m ^ n))))
+    record { value = e; query_after = z; result_value = ap outcome_answer e ∙ go (eqb (length query) query_bytes) (outside m) (ltb max_terms n) (ltb max_sequences (m ^ n)) }
   where
     number : (f : Bool) → outcome_answer (pick f Done (Refused R.Census)) ≡ pick (not f) (refused 33) (granted [])
     number true = refl
@@ -40,10 +40,10 @@ enumerate_told m n x query e z =
 
 pub tally_told :
     (m n : ℕ) (cells : List ℕ) {r : Outcome} {A : Type 0} → r ≡ tally_of m n cells → A
-    → (r ≡ tally_of m n cells) × (A × (outcome_answer r ≡ tally_answer m n cells))
+    → record { value : r ≡ tally_of m n cells; cells_after : A; result_value : outcome_answer r ≡ tally_answer m n cells }
 unfolding tally_of tally_answer counted_of first_of
 tally_told m n cells e z =
-    (e, (z, ap outcome_answer e ∙ go (eqb (length cells) tally_bytes) (outside m) (ltb max_terms n) (ltb max_sequences (m ^ n))))
+    record { value = e; cells_after = z; result_value = ap outcome_answer e ∙ go (eqb (length cells) tally_bytes) (outside m) (ltb max_terms n) (ltb max_sequences (m ^ n)) }
   where
     go :
         (a b c d : Bool)

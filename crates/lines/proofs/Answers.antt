@@ -28,9 +28,9 @@ found_told (read m ts) = go (outside m) (ltb max_terms (length ts))
     go false false = refl
 
 -- the whole promise of the call, as `push_told` (sequence) gives that of a push
-pub read_told : (line query : List ℕ) {r : Outcome} {A : Type 0} → r ≡ read_of line query → A → (r ≡ read_of line query) × (A × (outcome_answer r ≡ read_answer line query))
+pub read_told : (line query : List ℕ) {r : Outcome} {A : Type 0} → r ≡ read_of line query → A → record { value : r ≡ read_of line query; query_after : A; result_value : outcome_answer r ≡ read_answer line query }
 unfolding read_of first_of
-read_told line query e x = (e, (x, ap outcome_answer e ∙ go (eqb (length query) query_bytes)))
+read_told line query e x = record { value = e; query_after = x; result_value = ap outcome_answer e ∙ go (eqb (length query) query_bytes) }
   where
     go :
         (a : Bool)

@@ -18,7 +18,7 @@ ghost use Rattle.lines.specs.Scan.{scanned_of, Kept, count_ended, array_ended};
 use sequence::{Outcome, QUERY_BYTES, Refusal};
 use steps::TERMS;
 
-#[derive(Drop)]
+#[derive(Clone, Copy)]
 enum Class {
     Digit,
     Comma,
@@ -28,7 +28,7 @@ enum Class {
 }
 
 // Where in a line the reading stands.
-#[derive(Drop)]
+#[derive(Clone, Copy)]
 enum State {
     Start,
     AfterM,
@@ -47,7 +47,7 @@ enum State {
 }
 
 // What is known where the reading stands: the state, the number that is being read and its sign, and the modulus.
-#[derive(Drop)]
+#[derive(Clone, Copy)]
 struct Cursor {
     state: State,
     minus: bool,
@@ -56,7 +56,7 @@ struct Cursor {
 }
 
 // What a line holds: the place where its form is broken, the place of a digit that passes its range, or the modulus and the count of terms.
-#[derive(Drop)]
+#[derive(Clone, Copy)]
 enum Scanned {
     Broken(usize),
     Past(usize),

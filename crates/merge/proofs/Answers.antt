@@ -18,10 +18,10 @@ use Rattle.sequence.proofs.Answers.{or_refused, query_told}
 use Rattle.merge.specs.Rules.{divisor_of, multiple_of, first_apart, compared_by, compared_of, and_then, merge_of, merge_answer}
 
 -- the whole promise of the call, as `push_told` (sequence) gives that of a push
-pub merge_told : (x y query : List ℕ) {r : Outcome} {A : Type 0} → r ≡ merge_of x y query → A → (r ≡ merge_of x y query) × (A × (outcome_answer r ≡ merge_answer x y query))
+pub merge_told : (x y query : List ℕ) {r : Outcome} {A : Type 0} → r ≡ merge_of x y query → A → record { value : r ≡ merge_of x y query; query_after : A; result_value : outcome_answer r ≡ merge_answer x y query }
 unfolding merge_of merge_answer compared_of first_of
 merge_told x y query e z =
-    (e, (z, ap outcome_answer e ∙ go (eqb (length x) query_bytes) (eqb (length y) query_bytes) (eqb (length query) query_bytes)))
+    record { value = e; query_after = z; result_value = ap outcome_answer e ∙ go (eqb (length x) query_bytes) (eqb (length y) query_bytes) (eqb (length query) query_bytes) }
   where
     s : Sequence
     s = sequence_of x

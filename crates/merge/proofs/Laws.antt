@@ -236,10 +236,7 @@ second_refused x y d e = sym (ap₂ (λ (o p : Outcome). and_then o (and_then p 
 pub both_passed :
     (x y old : List ℕ) {c d : Checked} → c ≡ checked_of x → c.outcome ≡ Done → d ≡ checked_of y → d.outcome ≡ Done → {r : Outcome} {new : List ℕ}
     → r ≡ compared_of c.sequence d.sequence → new ≡ filled r (merged_query c.sequence d.sequence) old
-    → (r ≡ past_buffers x y) × (new ≡ merged_in r x y old)
+    → record { value : r ≡ past_buffers x y; query_after : new ≡ merged_in r x y old }
 both_passed x y old ec hc ed hd {r} told written =
     let s = (accepted x ec hc).same in
-    let t = (accepted y ed hd).same in (
-      told ∙ (λ i. compared_of (s i) (t i)) ∙ sym (ap₂ (λ (o p : Outcome). and_then o (and_then p (compared_of (sequence_of x) (sequence_of y)))) (sym (checked x ec) ∙ hc) (sym (checked y ed) ∙ hd)),
-      written ∙ (λ i. filled r (merged_query (s i) (t i)) old),
-    )
+    let t = (accepted y ed hd).same in record { value = told ∙ (λ i. compared_of (s i) (t i)) ∙ sym (ap₂ (λ (o p : Outcome). and_then o (and_then p (compared_of (sequence_of x) (sequence_of y)))) (sym (checked x ec) ∙ hc) (sym (checked y ed) ∙ hd)); query_after = written ∙ (λ i. filled r (merged_query (s i) (t i)) old) }

@@ -60,7 +60,7 @@ fn compare(s: Sequence, t: Sequence, g: u32) -> Outcome
 }
 
 // Two moduli mu g and nu g, mu and nu coprime, their least common multiple and their meeter: taken once for all terms.
-#[derive(Drop)]
+#[derive(Clone, Copy)]
 struct Moduli {
     multiple: u32,
     mu: u32,

@@ -16,10 +16,10 @@ use Rattle.period.specs.Halving.{halving}
 use Rattle.period.specs.Rules.{periods, exponent, digits_in, measured_answer, period_length_of, period_length_answer}
 
 -- the whole promise of the call
-pub period_told : (cells : List ℕ) {r : Measured} → r ≡ period_length_of cells → (r ≡ period_length_of cells) × (measured_answer r ≡ period_length_answer cells)
+pub period_told : (cells : List ℕ) {r : Measured} → r ≡ period_length_of cells → record { value : r ≡ period_length_of cells; result_value : measured_answer r ≡ period_length_answer cells }
 unfolding period_length_of period_length_answer first_of
 period_told cells e =
-    (e, ap measured_answer e ∙ go (eqb (length cells % 2) zero) (ltb (exponent n) periods) (ltb i n))
+    record { value = e; result_value = ap measured_answer e ∙ go (eqb (length cells % 2) zero) (ltb (exponent n) periods) (ltb i n) }
   where
     n : ℕ
     n = length cells / 2

@@ -15,7 +15,7 @@ const PERIODS: usize = 7;
 
 const MAX_PERIOD: usize = 64;
 
-#[derive(Drop)]
+#[derive(Clone, Copy)]
 pub enum Measured {
     Length(u32),
     Refused(Refusal),
