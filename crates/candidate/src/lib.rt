@@ -14,7 +14,7 @@ ghost use Rattle.candidate.specs.Rules.{a_cells, b_cells, all_below, fits, flaw_
 use sequence::{Outcome, Refusal, Sequence};
 use steps::{CELLS, TERMS};
 
-#[derive(Drop)]
+#[derive(Clone, Copy)]
 pub enum Verdict {
     Yes,
     No(u32),

@@ -24,7 +24,7 @@ pub const LENGTHS: usize = 13;
 pub const TALLY_BYTES: usize = 2 * LENGTHS;
 
 // How many sequences of n terms modulo m there are, or why they are not counted.
-#[derive(Drop)]
+#[derive(Clone, Copy)]
 enum Counted {
     Sequences(u32),
     Refused(Refusal),

@@ -1,0 +1,26 @@
+-- `enumeration::write_sequence` meets its contract: the digits of a number below k, as a query.
+-- Assumes nothing.
+use mathlib.Core.Path.{refl}
+use native.Mathlib.Omega.{arith}
+use Rattle.enumeration.proofs.Laws.{Legal, counted, number_refused, number_taken, query_is}
+use Rattle.enumeration.proofs.write_sequence.Goals as goal
+
+pub returns-then-k-number : goal.returns-then-k-number
+returns-then-k-number c =
+    let a = c.args in
+    record { value = number_refused a.k a.number (omega (arith, c.if-k-number.true)); query_after = refl }
+
+pub overflow_cast-number : goal.overflow_cast-number
+overflow_cast-number c =
+    let l : Legal c.args.m c.args.n c.args.k = counted _ _ _ c.requires.0 in
+    omega (arith, l.small)
+
+pub digits-terms-requires : goal.digits-terms-requires
+digits-terms-requires c =
+    let l : Legal c.args.m c.args.n c.args.k = counted _ _ _ c.requires.0 in
+    (omega (arith, l.least), l.count)
+
+pub returns : goal.returns
+returns c =
+    let a = c.args in
+    record { value = number_taken a.k a.number (omega (arith, c.if-k-number.false)); query_after = query_is _ _ _ c.digits-terms.ensures c.write_query.ensures }
