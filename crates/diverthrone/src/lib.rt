@@ -1,4 +1,4 @@
-// The functions for C. A slice passes as a pointer and a length; include/diverthrone.h has the declarations.
+// The functions for C, which the static library `diverthrone_c` exports under these names; include/diverthrone.h has the declarations.
 #![tactic(auto)]
 
 ghost use Rattle.std.specs.Prelude.{◌≡◌};
@@ -20,8 +20,7 @@ use sequence::Outcome;
 
 // Makes the record of a query.
 // Rejected: one that refuses every query; one that writes the query's bytes before it refuses.
-#[unsafe(no_mangle)]
-pub extern "C" fn diverthrone_synthesize(query: &[u8], out: &mut [u8]) -> u64
+pub fn diverthrone_synthesize(query: &[u8], out: &mut [u8]) -> u64
     ensures value { result ≡ code_of (synthesize_answer query.now out.old) }
     ensures out_after { out.new ≡ filled (synthesize_of query.now out.old) (record_of query.now) out.old }
 {
@@ -34,8 +33,7 @@ pub extern "C" fn diverthrone_synthesize(query: &[u8], out: &mut [u8]) -> u64
 
 // Looks a query up in a catalogue for who asks: 1 is an editor, any other number a visitor.
 // Rejected: one that says made before it looks; one that serves a record whose place it does not tell; one that cuts who asks to 32 bits.
-#[unsafe(no_mangle)]
-pub extern "C" fn diverthrone_look_up(
+pub fn diverthrone_look_up(
     query: &[u8],
     catalogue: &[u8],
     who: u64,
@@ -54,8 +52,7 @@ pub extern "C" fn diverthrone_look_up(
 
 // Tests a candidate against a query.
 // Rejected: one that says no without the place; one that answers a malformed candidate with no.
-#[unsafe(no_mangle)]
-pub extern "C" fn diverthrone_verify(query: &[u8], a: &[u8], b: &[u8], length: u32) -> u64
+pub fn diverthrone_verify(query: &[u8], a: &[u8], b: &[u8], length: u32) -> u64
     ensures { result ≡ code_of (verify_answer query.now a.now b.now length) }
 {
     let v = candidate::verify(query, a, b, length);
@@ -68,8 +65,7 @@ pub extern "C" fn diverthrone_verify(query: &[u8], a: &[u8], b: &[u8], length: u
 
 // Runs a candidate for as many cells as are lent.
 // Rejected: one that fills all cells but the last; one that runs a candidate with a_0 = 2.
-#[unsafe(no_mangle)]
-pub extern "C" fn diverthrone_generate(
+pub fn diverthrone_generate(
     modulus: u32,
     a: &[u8],
     b: &[u8],
@@ -88,8 +84,7 @@ pub extern "C" fn diverthrone_generate(
 
 // Reads a typed line into a query.
 // Rejected: one that tells the place from 1; one that clears the query's bytes before it refuses.
-#[unsafe(no_mangle)]
-pub extern "C" fn diverthrone_read_line(line: &[u8], query: &mut [u8]) -> u64
+pub fn diverthrone_read_line(line: &[u8], query: &mut [u8]) -> u64
     ensures value { result ≡ code_of (read_answer line.now query.old) }
     ensures query_after { query.new ≡ filled (read_of line.now query.old) (query_in (found_in line.now)) query.old }
 {
@@ -102,8 +97,7 @@ pub extern "C" fn diverthrone_read_line(line: &[u8], query: &mut [u8]) -> u64
 
 // Merges two queries to one modulo the least common multiple of their moduli.
 // Rejected: one that merges the first with itself; one that clears the query's bytes before it refuses.
-#[unsafe(no_mangle)]
-pub extern "C" fn diverthrone_merge(first: &[u8], second: &[u8], query: &mut [u8]) -> u64
+pub fn diverthrone_merge(first: &[u8], second: &[u8], query: &mut [u8]) -> u64
     ensures value { result ≡ code_of (merge_answer first.now second.now query.old) }
     ensures query_after { query.new ≡ merged_in (merge_of first.now second.now query.old) first.now second.now query.old }
 {
@@ -116,8 +110,7 @@ pub extern "C" fn diverthrone_merge(first: &[u8], second: &[u8], query: &mut [u8
 
 // The length of the binary sequence whose period is lent.
 // Rejected: one that tells 1 more than the length; one that tells 3 without its place.
-#[unsafe(no_mangle)]
-pub extern "C" fn diverthrone_period_length(cells: &[u8]) -> u64
+pub fn diverthrone_period_length(cells: &[u8]) -> u64
     ensures { result ≡ length_code_of (period_length_answer cells.now) }
 {
     let m = period::period_length(cells);
@@ -129,8 +122,7 @@ pub extern "C" fn diverthrone_period_length(cells: &[u8]) -> u64
 
 // Writes the query of the sequence of count terms with this number.
 // Rejected: one that cuts the number to 32 bits; one that clears the query's bytes before it refuses.
-#[unsafe(no_mangle)]
-pub extern "C" fn diverthrone_enumerate(
+pub fn diverthrone_enumerate(
     modulus: u32,
     count: u32,
     number: u64,
@@ -148,8 +140,7 @@ pub extern "C" fn diverthrone_enumerate(
 
 // How many sequences of count terms have each length.
 // Rejected: the count and the modulus exchanged; one that tallies one term fewer.
-#[unsafe(no_mangle)]
-pub extern "C" fn diverthrone_tally(modulus: u32, count: u32, cells: &mut [u8]) -> u64
+pub fn diverthrone_tally(modulus: u32, count: u32, cells: &mut [u8]) -> u64
     ensures value { result ≡ code_of (tally_answer modulus count cells.old) }
     ensures cells_after { cells.new ≡ filled (tally_of modulus count cells.old) (tally_cells modulus count) cells.old }
 {
@@ -162,8 +153,7 @@ pub extern "C" fn diverthrone_tally(modulus: u32, count: u32, cells: &mut [u8]) 
 
 // Looks up a batch of queries in one walk along a catalogue. Each query's reply is the one that diverthrone_look_up gives it alone.
 // Rejected: one that tells made before found; one that cuts who asks to 32 bits; one that clears the records before it refuses.
-#[unsafe(no_mangle)]
-pub extern "C" fn diverthrone_look_up_batch(
+pub fn diverthrone_look_up_batch(
     queries: &[u8],
     catalogue: &[u8],
     who: u64,
