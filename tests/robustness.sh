@@ -16,15 +16,12 @@ trap 'exit 1' HUP INT TERM
 compile() {
     output=$1
     shift
-    gcc -std=c11 -Wall -Wextra -Werror "$@" -Iinclude tests/robustness.c target/staticlib/libdiverthrone.a -o "$work/$output"
+    gcc -std=c11 -Wall -Wextra -Werror "$@" -Iinclude tests/robustness.c "$work/libdiverthrone.a" -o "$work/$output"
 }
 
 build() {
     reference/build.sh "$work/reference"
-    if ! rt staticlib diverthrone >"$work/log" 2>&1; then
-        cat "$work/log"
-        exit 1
-    fi
+    bash tools/archive.sh diverthrone_c "$work/libdiverthrone.a"
     compile sanitized -O1 -g -fsanitize=address,undefined -fno-sanitize-recover=all
     compile plain -O2
 }

@@ -7,13 +7,9 @@ cd -- "$here/.."
 work=$(mktemp -d)
 trap 'rm -rf -- "$work"' EXIT
 trap 'exit 1' HUP INT TERM
-for crate in diverthrone timing; do
-    if ! rt staticlib "$crate" >"$work/log" 2>&1; then
-        cat "$work/log"
-        exit 1
-    fi
-done
+bash tools/archive.sh diverthrone_c "$work/libdiverthrone.a"
+bash tools/archive.sh timing "$work/libtiming.a"
 # Bound at the start: a lookup of memcpy's address inside a call would count as its stack.
-gcc -std=c11 -Wall -Wextra -Werror -O1 -g -pthread -Wl,-z,now -Iinclude tests/stack_use.c target/staticlib/libdiverthrone.a \
-    target/staticlib/libtiming.a -o "$work/stack_use"
+gcc -std=c11 -Wall -Wextra -Werror -O1 -g -pthread -Wl,-z,now -Iinclude tests/stack_use.c "$work/libdiverthrone.a" \
+    "$work/libtiming.a" -o "$work/stack_use"
 "$work/stack_use" "$@"
