@@ -49,7 +49,7 @@ module _ (query c c' : List ℕ) (size : length c ≡ length c') (bodies : (i : 
   answer_same out = sym (told c) ∙ ap looked_up_answer (reply_same out) ∙ told c'
     where
       told : (d : List ℕ) → looked_up_answer (look_up_of query d out) ≡ look_up_answer query d out
-      told d = (look_up_told query d out {r = look_up_of query d out} {A = query ≡ query} refl refl).1.1
+      told d = (look_up_told query d out {r = look_up_of query d out} {A = query ≡ query} refl refl).result_value
 
   -- and to a visitor the same bytes
   pub bytes_same : (who : ℕ) (out : List ℕ) → (who ≡ editor → ⊥) → served_in who (look_up_of query c out) query c out ≡ served_in who (look_up_of query c' out) query c' out

@@ -28,14 +28,14 @@ pub const LENGTH_CELL: usize = QUERY_BYTES / 2;
 // Who asks: an editor is this number, a visitor any other.
 pub const EDITOR: u64 = 1;
 
-#[derive(Drop)]
+#[derive(Clone, Copy)]
 pub enum LookedUp {
     Found(usize),
     Made,
     Refused(Refusal),
 }
 
-#[derive(Drop)]
+#[derive(Clone, Copy)]
 enum Match {
     At(usize),
     Nowhere,
