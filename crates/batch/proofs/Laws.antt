@@ -50,7 +50,7 @@ alone_lent query catalogue lent h = look_up_lent query catalogue lent zero_recor
 pub alone_code : (query catalogue lent : List ℕ) → length lent ≡ record_bytes → reply_code (alone_of query catalogue) ≡ code_of (look_up_answer query catalogue lent)
 alone_code query catalogue lent h =
     ap reply_code (sym (alone_lent query catalogue lent h))
-    ∙ ap code_of (look_up_told query catalogue lent {r = look_up_of query catalogue lent} {A = query ≡ query} refl refl).1.1
+    ∙ ap code_of (look_up_told query catalogue lent {r = look_up_of query catalogue lent} {A = query ≡ query} refl refl).result_value
 
 -- its part, where looking up is not refused and where it is
 pub part_served :

@@ -150,9 +150,12 @@ answer_told queries catalogue out replies =
 
 abbrev Told : (queries catalogue out replies : List ℕ) (who : ℕ) (b : Batch) (out' replies' : List ℕ) → Type 0
 Told queries catalogue out replies who b out' replies' =
-    (b ≡ look_up_batch_of queries catalogue out replies)
-    × ((out' ≡ parts_in who b queries catalogue out)
-    × ((replies' ≡ replies_in b queries catalogue replies) × (batch_answer b ≡ look_up_batch_answer queries catalogue out replies)))
+    record {
+      value : b ≡ look_up_batch_of queries catalogue out replies;
+      out_after : out' ≡ parts_in who b queries catalogue out;
+      replies_after : replies' ≡ replies_in b queries catalogue replies;
+      result_value : batch_answer b ≡ look_up_batch_answer queries catalogue out replies;
+    }
 
 pub reply_by_lem :
     (queries catalogue out replies : List ℕ) (o : Outcome) → refused_whole (length queries) (length catalogue) (length out) (length replies) ≡ o
@@ -168,22 +171,19 @@ module _ (queries catalogue out replies : List ℕ) (who : ℕ) where
       → Told queries catalogue out replies who (record { found = 0; made = 0; refused = 0; outcome = O.Refused r }) out replies
   refused_told {o} {r} e k =
       let same = sym (reply_by_lem queries catalogue out replies (O.Refused r) (sym e ∙ k)) in
-      (same, (refl, (refl, ap batch_answer same ∙ answer_told queries catalogue out replies)))
+      record { value = same; out_after = refl; replies_after = refl; result_value = ap batch_answer same ∙ answer_told queries catalogue out replies }
 
   pub done_told :
       {o : Outcome} {f m x : ℕ} {out' replies' : List ℕ} → o ≡ refused_whole (length queries) (length catalogue) (length out) (length replies) → o ≡ O.Done
       → Answered who queries catalogue out' replies' → f ≡ of_kind 1 replies' → m ≡ of_kind 0 replies' → x ≡ of_kind 2 replies'
       → Told queries catalogue out replies who (record { found = f; made = m; refused = x; outcome = O.Done }) out' replies'
-  done_told {o} {f} {m} {x} {out'} {replies'} e k a ef em ex = (
-    same,
-    (
-      is_end_to_end (queries_in queries) (λ i. part_of who (query_at queries i) catalogue) out' a.wide a.shown,
-      (
-        is_tabulate (queries_in queries) (λ i. reply_code (alone_of (query_at queries i) catalogue)) 0 replies' a.many a.told,
-        ap batch_answer same ∙ answer_told queries catalogue out replies,
-      ),
-    ),
-  )
+  done_told {o} {f} {m} {x} {out'} {replies'} e k a ef em ex =
+      record {
+        value = same;
+        out_after = is_end_to_end (queries_in queries) (λ i. part_of who (query_at queries i) catalogue) out' a.wide a.shown;
+        replies_after = is_tabulate (queries_in queries) (λ i. reply_code (alone_of (query_at queries i) catalogue)) 0 replies' a.many a.told;
+        result_value = ap batch_answer same ∙ answer_told queries catalogue out replies;
+      }
     where
       counts : ◌≡◌ {A = Batch} (record { found = f; made = m; refused = x; outcome = O.Done })
           (reply_by O.Done (count_kind is_found queries catalogue) (count_kind is_made queries catalogue) (count_kind is_refused queries catalogue))

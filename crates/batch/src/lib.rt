@@ -21,7 +21,7 @@ const MAX_QUERIES: usize = 16;
 const SLOTS: usize = 4099;
 
 // How many queries were found, made and refused, 0 each where the whole call is refused.
-#[derive(Drop)]
+#[derive(Clone, Copy)]
 pub struct Batch {
     pub found: usize,
     pub made: usize,

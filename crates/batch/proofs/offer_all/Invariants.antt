@@ -1,0 +1,14 @@
+-- `batch::offer_all` meets its contract: the queries below i were offered the record, the others hold what they held.
+-- Assumes nothing.
+use Prim.Native.Nat.{◌-◌}
+use Rattle.batch.specs.Rules.{queries_in}
+use Rattle.batch.proofs.Turns.{Offering}
+use Rattle.batch.proofs.offer_all.Given as goal
+
+abbrev pub invariant-loop-i : goal.invariant-loop-i
+invariant-loop-i l =
+    Offering l.who l.queries l.entry l.j l.initial.out l.initial.replies l.i l.out l.replies
+
+abbrev pub decreases-loop-i : goal.decreases-loop-i
+decreases-loop-i l =
+    queries_in l.queries - l.i
