@@ -8,7 +8,7 @@ use native.Mathlib.Omega.{arith}
 use lib.Dec.{eqb, ltb}
 use lib.ListN.{length, take}
 use lib.Seq.{ext_get_or, get_or-take, length-take-le}
-use borrow.Author.Tests.{lt-ltb, le-ltb, eq-eqb, ne_eqb, eqb-true, eqb-false, not-true, not-false}
+use borrow.Author.Tests.{lt-ltb, le-ltb, eq-eqb, ne_eqb, eqb-true, eqb-false}
 use Rattle.lists.specs.Choice.{pick, both}
 use Rattle.lists.specs.Table.{at}
 use Rattle.input.specs.declared.Taken.{Taken}
@@ -18,8 +18,8 @@ use Rattle.input.specs.Held.{Holds, taken_of, within}
 
 -- ---- how long a line is
 
-pub length_unmarked : (xs : List ℕ) (marked : Bool) → not marked ≡ true → length xs ≡ length_of xs marked
-length_unmarked xs marked e = sym (ap (length_of xs) (not-true marked e))
+pub length_unmarked : (xs : List ℕ) (marked : Bool) → marked ≡ false → length xs ≡ length_of xs marked
+length_unmarked xs marked e = sym (ap (length_of xs) e)
 
 pub length_none : (xs : List ℕ) (marked : Bool) → length xs ≡ 0 → length xs ≡ length_of xs marked
 length_none xs marked h = go (both marked (eqb (at xs (length xs - 1)) 13))
@@ -28,9 +28,9 @@ length_none xs marked h = go (both marked (eqb (at xs (length xs - 1)) 13))
     go true = omega arith
     go false = refl
 
-module _ (xs : List ℕ) (marked : Bool) (e : not marked ≡ false) where
+module _ (xs : List ℕ) (marked : Bool) (e : marked ≡ true) where
   told_by : {t : Bool} → eqb (at xs (length xs - 1)) 13 ≡ t → pick t (length xs - 1) (length xs) ≡ length_of xs marked
-  told_by f = sym (ap₂ (λ (s t : Bool). pick (both s t) (length xs - 1) (length xs)) (not-false marked e) f)
+  told_by f = sym (ap₂ (λ (s t : Bool). pick (both s t) (length xs - 1) (length xs)) e f)
 
   pub length_returned : at xs (length xs - 1) ≡ 13 → length xs - 1 ≡ length_of xs marked
   length_returned h = told_by (eq-eqb _ 13 h)

@@ -10,7 +10,6 @@ use native.Mathlib.Omega.{arith}
 use lib.Dec.{eqb}
 use lib.ListN.{length, take, length-append, get_or-append}
 use lib.Seq.{get_or-append-add, get_or-take}
-use borrow.Author.Tests.{not-true, not-false}
 use Rattle.lists.specs.Choice.{pick}
 use Rattle.lists.specs.Table.{at}
 use Rattle.lists.proofs.Search.{false_true, lt_or_le, first_before, first_none, none_first}
@@ -137,10 +136,10 @@ module _
     all_unbroken = both_unbroken k.xs (piece_of (rest_of s chunk)) k.unbroken (piece_unbroken (rest_of s chunk))
 
     -- the line has ended, or a read is needed
-    unknown_yet : (s' : Source) → s'.open ≡ s.open → marked ≡ false → not s'.open ≡ false → Begun start s₀ chunk₀ s chunk k.xs turns → is_known s₀ chunk₀ ≡ false
+    unknown_yet : (s' : Source) → s'.open ≡ s.open → marked ≡ false → s'.open ≡ true → Begun start s₀ chunk₀ s chunk k.xs turns → is_known s₀ chunk₀ ≡ false
     unknown_yet s' o e f (inl b) =
         ap₂ (λ (t : Source) (c : List ℕ). is_known t c) (sym b.0) (sym b.1)
-        ∙ ap₂ (λ (m p : Bool). pick m true (not p)) (sym ends ∙ e) (sym o) ∙ f
+        ∙ ap₂ (λ (m p : Bool). pick m true (not p)) (sym ends ∙ e) (sym o) ∙ ap not f
     unknown_yet s' o e f (inr r) = r.unknown
 
     module _ (s' : Source) (l : rest_of s' chunk ≡ left_of (rest_of s chunk)) where
@@ -160,7 +159,7 @@ module _
 
       pub turn_told :
           {r : Taken} → ((xs : List ℕ) → longest < length buffer' → Holds buffer' n' xs → r ≡ taken_of xs marked)
-          → (marked ≡ true) ⊎ ((marked ≡ false) × (not s'.open ≡ true)) → Told s₀ chunk₀ r s' chunk buffer'
+          → (marked ≡ true) ⊎ ((marked ≡ false) × (s'.open ≡ false)) → Told s₀ chunk₀ r s' chunk buffer'
       turn_told f w =
           record {
             xs = now;
@@ -176,9 +175,9 @@ module _
             whole = go w;
           }
         where
-          go : (marked ≡ true) ⊎ ((marked ≡ false) × (not s'.open ≡ true)) → (marked ≡ true) ⊎ (((s'.open ≡ false) × (rest_of s' chunk ≡ [])) ⊎ (longest + 1 < length now))
+          go : (marked ≡ true) ⊎ ((marked ≡ false) × (s'.open ≡ false)) → (marked ≡ true) ⊎ (((s'.open ≡ false) × (rest_of s' chunk ≡ [])) ⊎ (longest + 1 < length now))
           go (inl m) = inl m
-          go (inr c) = inr (inl (not-true s'.open c.1, l ∙ unmarked_left (rest_of s chunk) (sym ends ∙ c.0)))
+          go (inr c) = inr (inl (c.1, l ∙ unmarked_left (rest_of s chunk) (sym ends ∙ c.0)))
 
       pub turn_left : is_known s₀ chunk₀ ≡ true → rest_of s' chunk ≡ left_of (rest_of s₀ chunk₀)
       turn_left e = go k.begun
@@ -189,7 +188,7 @@ module _
 
     -- a read is needed
     pub turn_again :
-        {t : Source} {c : List ℕ} {left : ℕ} (s' : Source) → s'.open ≡ s.open → marked ≡ false → not s'.open ≡ false → Fresh t c → turns ≤ left + 1
+        {t : Source} {c : List ℕ} {left : ℕ} (s' : Source) → s'.open ≡ s.open → marked ≡ false → s'.open ≡ true → Fresh t c → turns ≤ left + 1
         → Kept start s₀ chunk₀ t c buffer' n' left
     turn_again {t} {c} {left} s' o e f g h =
         record {
@@ -211,5 +210,5 @@ module _
         go : Begun start s₀ chunk₀ s chunk k.xs turns → start ≤ left + length now + 1
         go (inl b) = omega (arith, b.4, h)
         go (inr r) =
-            let grows : 0 < length (piece_of (rest_of s chunk)) = fresh_grows s chunk r.fresh (sym o ∙ not-false s'.open f) (sym ends ∙ e) in
+            let grows : 0 < length (piece_of (rest_of s chunk)) = fresh_grows s chunk r.fresh (sym o ∙ f) (sym ends ∙ e) in
             omega (arith, r.reads, h, size, grows)

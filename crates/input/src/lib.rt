@@ -1,11 +1,14 @@
 // Typed lines from standard input. A line ends at a line feed, with a carriage return before it or not; the last may lack both. What a read
 // gives is used at once, so that a person at a terminal is answered after each line.
-ghost use Rattle.std.specs.Prelude.{◌≡◌, true, not, List, [], ◌∷◌, ◌++◌, ℕ, ◌≤◌, ◌<◌, eqb, leb, ltb, length};
+#![tactic(auto)]
+
+ghost use Rattle.std.specs.Prelude.{◌≡◌, true, false, not, List, [], ◌∷◌, ◌++◌, ℕ, ◌≤◌, ◌<◌, eqb, leb, ltb, length, IfOk, OnErr};
 ghost use Rattle.lists.specs.Choice.{both};
 ghost use Rattle.input.specs.Marks.{longest, mark_in, length_of, rest_of, piece_of, left_of, is_marked, is_known};
 ghost use Rattle.input.specs.Held.{Holds, taken_of, within, Told};
 
-use libc::STDIN_FILENO;
+use std::io;
+use std::io::Read;
 
 // The longest line, without its end mark.
 const LONGEST: usize = 65536;
@@ -17,7 +20,7 @@ pub const LINE_ROOM: usize = LONGEST + 1;
 pub const CHUNK: usize = 65536;
 
 // What is still to be taken: the bytes of the chunk from `from` to `end`, and, where `open`, what further reads give.
-#[derive(Drop)]
+#[derive(Clone, Copy)]
 pub struct Source {
     pub from: usize,
     pub end: usize,
@@ -141,16 +144,15 @@ fn taken_of(line: &[u8], held: usize, marked: bool) -> Taken
 }
 
 // Reads once. Where that gives nothing, the input has ended.
-fn refill(chunk: &mut [u8]) -> Source
-    ensures { (result.from ≡ 0) × (result.end ≤ length chunk.new) × (result.open ≡ ltb 0 result.end) }
+fn refill<R: Read>(reader: &mut R, chunk: &mut [u8]) -> io::Result<Source>
+    ensures { IfOk result (λ s. (s.from ≡ 0) × (s.end ≤ length chunk.new) × (s.open ≡ ltb 0 s.end)) }
 {
-    let got = libc::read(STDIN_FILENO, chunk);
-    let n = io::count(got, chunk);
-    Source {
+    let n = reader.read(chunk)?;
+    Ok(Source {
         from: 0,
         end: n,
         open: 0 < n,
-    }
+    })
 }
 
 // Whether a chunk of that many bytes has some that are still to be taken.
@@ -199,13 +201,20 @@ fn take_piece(source: Source, chunk: &[u8], line: &mut [u8], held: usize) -> Pie
     }
 }
 
-// The next line, at the start of `line`, which has LINE_ROOM places.
+// The next line, at the start of `line`, which has LINE_ROOM places. A read that fails is passed on: a line that is at hand never is one, and
+// what the buffers hold then is not told.
 // Rejected: a line feed in a line; a byte lost that the chunk has at entry, of this line or of a later one; a byte skipped behind a line feed
 // that a read gave; the carriage return of an end mark kept; a line cut short in silence, or the end told, by a source that is still open.
-pub fn next_line(from: Source, chunk: &mut [u8], line: &mut [u8]) -> Turn
-    ensures told { Told from chunk.old result.taken result.source chunk.new line.new }
-    ensures chunk_after { is_known from chunk.old ≡ true → rest_of result.source chunk.new ≡ left_of (rest_of from chunk.old) }
-    ensures within { within result.taken (length line.new) }
+pub fn next_line<R: Read>(
+    reader: &mut R,
+    from: Source,
+    chunk: &mut [u8],
+    line: &mut [u8],
+) -> io::Result<Turn>
+    ensures told { IfOk result (λ t. Told from chunk.old t.taken t.source chunk.new line.new) }
+    ensures chunk_after { IfOk result (λ t. is_known from chunk.old ≡ true → rest_of t.source chunk.new ≡ left_of (rest_of from chunk.old)) }
+    ensures within { IfOk result (λ t. within t.taken (length line.new)) }
+    ensures failed { OnErr result (is_known from chunk.old ≡ false) }
 {
     let mut source = from;
     let mut held: usize = 0;
@@ -216,11 +225,11 @@ pub fn next_line(from: Source, chunk: &mut [u8], line: &mut [u8]) -> Turn
         held = p.held;
         if p.marked || !source.open {
             let taken = taken_of(line, held, p.marked);
-            return Turn { taken, source };
+            return Ok(Turn { taken, source });
         }
-        source = refill(chunk);
+        source = refill(reader, chunk)?;
         turns = turns - 1;
     }
     let taken = Taken::TooLong;
-    Turn { taken, source }
+    Ok(Turn { taken, source })
 }
