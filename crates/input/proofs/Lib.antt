@@ -2,3 +2,4 @@ pub mod Holding
 pub mod Replies
 pub mod Pieces
 pub mod Turns
+pub mod Filling
