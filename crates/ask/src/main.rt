@@ -1,24 +1,29 @@
 // Answers typed lines, "mod 9: 6,3,1,-4,6": the listing's header, then for each line the listing's line, or its refusal.
+#![tactic(auto)]
+
 use input::{CHUNK, LINE_ROOM, Taken};
 use sequence::Refusal;
+use std::io;
+use std::io::{Read, Write};
 
-fn main() {
-    printing::header_line();
+// Each answer is written as soon as its line is read, so that a person at a terminal has it before the next line.
+fn answer<R: Read, W: Write>(reader: &mut R, out: &mut W) -> io::Result<()> {
+    printing::header_line(out)?;
     let mut chunk = [0u8; CHUNK];
-    let mut room = [0u8; LINE_ROOM];
-    let read: &mut [u8] = &mut chunk;
-    let line: &mut [u8] = &mut room;
+    let mut line = [0u8; LINE_ROOM];
     let mut source = input::start();
-    let mut turns = u64::MAX;
-    while turns > 0 {
-        let t = input::next_line(source, read, line);
+    for _ in 0..u64::MAX {
+        let t = input::next_line(reader, source, &mut chunk, &mut line)?;
         source = t.source;
-        let taken = t.taken;
-        match taken {
-            Taken::Line(n) => printing::typed_line(&line[..n]),
-            Taken::TooLong => printing::refusal_line(Refusal::Buffer),
-            Taken::Ended => return,
+        match t.taken {
+            Taken::Line(n) => printing::typed_line(out, &line[..n])?,
+            Taken::TooLong => printing::refusal_line(out, Refusal::Buffer)?,
+            Taken::Ended => break,
         }
-        turns = turns - 1;
     }
+    Ok(())
+}
+
+fn main(rt: HostRuntime) -> io::Result<()> {
+    answer(&mut rt.stdin(), &mut rt.stdout())
 }

@@ -1,31 +1,33 @@
 // Answers typed lines, "2 3": the census's header, then for each line the census's line of this modulus and count, or its refusal. A line
 // that is anything else ends it.
-use input::{CHUNK, LINE_ROOM, Taken};
+#![tactic(auto)]
 
-fn main() {
-    printing::census_header();
+use input::{CHUNK, LINE_ROOM, Taken};
+use std::io;
+use std::io::{Read, Write};
+
+// Each answer is written as soon as its line is read, so that a person at a terminal has it before the next line.
+fn answer<R: Read, W: Write>(reader: &mut R, out: &mut W) -> io::Result<()> {
+    printing::census_header(out)?;
     let mut chunk = [0u8; CHUNK];
-    let mut room = [0u8; LINE_ROOM];
-    let read: &mut [u8] = &mut chunk;
-    let line: &mut [u8] = &mut room;
+    let mut line = [0u8; LINE_ROOM];
     let mut source = input::start();
-    let mut turns = u64::MAX;
-    while turns > 0 {
-        let t = input::next_line(source, read, line);
+    for _ in 0..u64::MAX {
+        let t = input::next_line(reader, source, &mut chunk, &mut line)?;
         source = t.source;
-        let taken = t.taken;
-        match taken {
+        match t.taken {
             Taken::Line(n) => {
-                if !printing::pair_line(&line[..n]) {
-                    return;
+                if !printing::pair_line(out, &line[..n])? {
+                    break;
                 }
             }
-            Taken::TooLong => {
-                printing::no_pair_line();
-                return;
-            }
-            Taken::Ended => return,
+            Taken::TooLong => return printing::no_pair_line(out),
+            Taken::Ended => break,
         }
-        turns = turns - 1;
     }
+    Ok(())
+}
+
+fn main(rt: HostRuntime) -> io::Result<()> {
+    answer(&mut rt.stdin(), &mut rt.stdout())
 }

@@ -1,22 +1,32 @@
 // The listing: queries on standard input, a header and a line for each on standard output.
-use libc::STDIN_FILENO;
-use sequence::QUERY_BYTES;
+#![tactic(auto)]
 
-// Reads one query; says whether to go on.
-fn next() -> bool {
+use sequence::QUERY_BYTES;
+use std::io;
+use std::io::{BufWriter, Read, Write};
+
+// Reads one query and answers it; says whether to go on.
+fn next<R: Read, W: Write>(reader: &mut R, out: &mut W) -> io::Result<bool> {
     let mut query = [0u8; QUERY_BYTES];
-    let n = io::read_full(STDIN_FILENO, &mut query);
+    let n = input::read_full(reader, &mut query)?;
     if n == 0 {
-        return false;
+        return Ok(false);
     }
-    printing::query_line(&query[..n]);
-    true
+    printing::query_line(out, &query[..n])?;
+    Ok(true)
 }
 
-fn main() {
-    printing::header_line();
-    let mut turns = u64::MAX;
-    while turns > 0 && next() {
-        turns = turns - 1;
+fn list<R: Read, W: Write>(reader: &mut R, out: &mut W) -> io::Result<()> {
+    printing::header_line(out)?;
+    for _ in 0..u64::MAX {
+        if !next(reader, out)? {
+            break;
+        }
     }
+    out.flush()
+}
+
+fn main(rt: HostRuntime) -> io::Result<()> {
+    let mut out = BufWriter::new(rt.alloc(), rt.stdout())?;
+    list(&mut rt.stdin(), &mut out)
 }

@@ -1,14 +1,17 @@
 // Replays a script of calls: reads the calls from standard input, makes each through the library and writes a line of text for it.
 // reference/README.md has the format of the script and of the text; the second program says what the text has to be.
+#![tactic(auto)]
+
 ghost use Rattle.std.specs.Prelude.{◌≤◌};
 ghost use Rattle.steps.specs.Sizes.{log_words};
 
 use candidate::Verdict;
 use catalogue::LookedUp;
-use libc::{STDIN_FILENO, STDOUT_FILENO};
 use period::Measured;
 use sequence::{Outcome, QUERY_BYTES, Reported, Sequence};
-use steps::{LOG, StepRecord, TERMS};
+use std::io;
+use std::io::{BufWriter, Read, Write};
+use steps::{LOG, StepRecord};
 
 // Where an FNV-1a hash of 32 bits starts.
 const START: u32 = 2166136261;
@@ -77,27 +80,27 @@ fn parse_numbered(p: &[u8; 12]) -> Numbered {
 }
 
 // Fills buf from the script; says whether the script ends too early.
-fn is_cut(buf: &mut [u8]) -> bool {
-    let n = io::read_full(STDIN_FILENO, buf);
-    n < buf.len()
+fn is_cut<R: Read>(reader: &mut R, buf: &mut [u8]) -> io::Result<bool> {
+    let n = input::read_full(reader, buf)?;
+    Ok(n < buf.len())
 }
 
-fn outcome(o: Outcome) {
+fn outcome<W: Write>(out: &mut W, o: Outcome) -> io::Result<()> {
     match o {
-        Outcome::Done => printing::text(b"ok"),
-        Outcome::Refused(r) => printing::refused(r),
+        Outcome::Done => printing::text(out, b"ok"),
+        Outcome::Refused(r) => printing::refused(out, r),
     }
 }
 
-fn reported(r: Reported) {
+fn reported<W: Write>(out: &mut W, r: Reported) -> io::Result<()> {
     match r {
         Reported::Length(l, w) => {
-            printing::text(b"length ");
-            printing::number(l as u64);
-            printing::text(b" ");
-            printing::uniqueness(w);
+            printing::text(out, b"length ")?;
+            printing::number(out, l as u64)?;
+            printing::text(out, b" ")?;
+            printing::uniqueness(out, w)
         }
-        Reported::Refused(r) => printing::refused(r),
+        Reported::Refused(r) => printing::refused(out, r),
     }
 }
 
@@ -137,10 +140,8 @@ fn mixed_record(h: u32, x: StepRecord) -> u32 {
 
 fn hash(s: &[u8]) -> u32 {
     let mut h = START;
-    let mut i: usize = 0;
-    while i < s.len() {
-        h = mixed(h, s[i]);
-        i += 1;
+    for byte in s {
+        h = mixed(h, *byte);
     }
     h
 }
@@ -148,11 +149,8 @@ fn hash(s: &[u8]) -> u32 {
 // The hash of the 260 bytes that write a sequence down.
 fn hash_sequence(s: Sequence) -> u32 {
     let mut h = mixed_cell(mixed_cell(START, s.modulus), s.count);
-    let terms = s.terms;
-    let mut i: usize = 0;
-    while i < TERMS {
-        h = mixed_cell(h, terms[i]);
-        i += 1;
+    for term in &s.terms {
+        h = mixed_cell(h, *term);
     }
     h
 }
@@ -162,22 +160,19 @@ fn hash_log(log: &[u64; LOG], count: usize) -> u32
     requires { count ≤ log_words }
 {
     let mut h = START;
-    let mut i: usize = 0;
-    while i < count {
+    for i in 0..count {
         h = mixed_record(h, steps::entry(log, i));
-        i += 1;
     }
     h
 }
 
-fn print_hash(h: u32) {
-    printing::text(b" ");
-    io::print_hex(STDOUT_FILENO, h as u64, 8);
+fn print_hash<W: Write>(out: &mut W, h: u32) -> io::Result<()> {
+    write!(out, " {h:08x}")
 }
 
-fn end_hash(h: u32) {
-    print_hash(h);
-    printing::text(b"\n");
+fn end_hash<W: Write>(out: &mut W, h: u32) -> io::Result<()> {
+    print_hash(out, h)?;
+    printing::text(out, b"\n")
 }
 
 fn stopped(s: Sequence) -> Turn {
@@ -188,148 +183,179 @@ fn stopped(s: Sequence) -> Turn {
 }
 
 // The turn after a call, with the sequence that is held then; the script ends where it does not have the whole call.
-fn kept(s: Sequence, whole: bool) -> Turn {
+fn kept<W: Write>(whole: bool, out: &mut W, s: Sequence) -> io::Result<Turn> {
     if whole {
-        return Turn {
+        return Ok(Turn {
             sequence: s,
             going: true,
-        };
+        });
     }
-    printing::text(b"script cut short\n");
-    stopped(s)
+    printing::text(out, b"script cut short\n")?;
+    Ok(stopped(s))
 }
 
 // Ends the line of a call that may replace the sequence held.
-fn held(s: Sequence) -> Turn {
-    end_hash(hash_sequence(s));
-    Turn {
+fn held<W: Write>(out: &mut W, s: Sequence) -> io::Result<Turn> {
+    end_hash(out, hash_sequence(s))?;
+    Ok(Turn {
         sequence: s,
         going: true,
-    }
+    })
 }
 
-fn open(modulus: u32) -> Turn {
+fn open<W: Write>(out: &mut W, modulus: u32) -> io::Result<Turn> {
     let o = sequence::open(modulus);
-    printing::text(b"open ");
+    printing::text(out, b"open ")?;
     let r = o.outcome;
-    outcome(r);
-    held(o.sequence)
+    outcome(out, r)?;
+    held(out, o.sequence)
 }
 
-fn push(s: Sequence, term: u32) -> Turn {
+fn push<W: Write>(out: &mut W, s: Sequence, term: u32) -> io::Result<Turn> {
     let p = sequence::push(s, term);
-    printing::text(b"push ");
+    printing::text(out, b"push ")?;
     let r = p.outcome;
-    outcome(r);
-    held(p.sequence)
+    outcome(out, r)?;
+    held(out, p.sequence)
 }
 
 // Of each call with buffers, NAME lends them, and NAME_in makes the call in their parts of the stated lengths.
-fn push_all_in(s: Sequence, list: &mut [u8]) -> Turn {
-    if is_cut(list) {
-        return kept(s, false);
+fn push_all_in<R: Read, W: Write>(
+    reader: &mut R,
+    out: &mut W,
+    s: Sequence,
+    list: &mut [u8],
+) -> io::Result<Turn> {
+    if is_cut(reader, list)? {
+        return kept(false, out, s);
     }
     let p = column::push_all(s, list);
-    printing::text(b"push_all taken ");
-    printing::number(p.taken as u64);
-    printing::text(b" ");
+    printing::text(out, b"push_all taken ")?;
+    printing::number(out, p.taken as u64)?;
+    printing::text(out, b" ")?;
     let r = p.outcome;
-    outcome(r);
+    outcome(out, r)?;
     let after = p.sequence;
-    print_hash(hash_sequence(after));
-    end_hash(hash(list));
-    kept(after, true)
+    print_hash(out, hash_sequence(after))?;
+    end_hash(out, hash(list))?;
+    kept(true, out, after)
 }
 
-fn push_all(s: Sequence, c: Call) -> Turn {
+fn push_all<R: Read, W: Write>(
+    reader: &mut R,
+    out: &mut W,
+    s: Sequence,
+    c: Call,
+) -> io::Result<Turn> {
     let x = c.x as usize;
     let mut list = [0u8; 65536];
-    push_all_in(s, &mut list[0..x])
+    push_all_in(reader, out, s, &mut list[0..x])
 }
 
-fn register_in(s: Sequence, a: &mut [u8], b: &mut [u8]) {
+fn register_in<W: Write>(out: &mut W, s: Sequence, a: &mut [u8], b: &mut [u8]) -> io::Result<()> {
     let r = sequence::register(s, a, b);
-    printing::text(b"register ");
-    reported(r);
-    print_hash(hash(a));
-    end_hash(hash(b));
+    printing::text(out, b"register ")?;
+    reported(out, r)?;
+    print_hash(out, hash(a))?;
+    end_hash(out, hash(b))
 }
 
-fn register(s: Sequence, c: Call) -> Turn {
+fn register<W: Write>(out: &mut W, s: Sequence, c: Call) -> io::Result<Turn> {
     let fill = c.fill;
     let x = c.x as usize;
     let y = c.y as usize;
     let mut a = [fill; 65536];
     let mut b = [fill; 65536];
-    register_in(s, &mut a[0..x], &mut b[0..y]);
-    kept(s, true)
+    register_in(out, s, &mut a[0..x], &mut b[0..y])?;
+    kept(true, out, s)
 }
 
-fn profile_in(s: Sequence, cells: &mut [u8]) {
+fn profile_in<W: Write>(out: &mut W, s: Sequence, cells: &mut [u8]) -> io::Result<()> {
     let o = sequence::profile(s, cells);
-    printing::text(b"profile ");
-    outcome(o);
-    end_hash(hash(cells));
+    printing::text(out, b"profile ")?;
+    outcome(out, o)?;
+    end_hash(out, hash(cells))
 }
 
-fn profile(s: Sequence, c: Call) -> Turn {
+fn profile<W: Write>(out: &mut W, s: Sequence, c: Call) -> io::Result<Turn> {
     let fill = c.fill;
     let x = c.x as usize;
     let mut cells = [fill; 65536];
-    profile_in(s, &mut cells[0..x]);
-    kept(s, true)
+    profile_in(out, s, &mut cells[0..x])?;
+    kept(true, out, s)
 }
 
 // A call with a payload says whether the script has all of it.
-fn verify_in(query: &mut [u8], a: &mut [u8], b: &mut [u8], l: u32) -> bool {
-    if is_cut(query) {
-        return false;
+fn verify_in<R: Read, W: Write>(
+    reader: &mut R,
+    out: &mut W,
+    query: &mut [u8],
+    a: &mut [u8],
+    b: &mut [u8],
+    l: u32,
+) -> io::Result<bool> {
+    if is_cut(reader, query)? {
+        return Ok(false);
     }
-    if is_cut(a) {
-        return false;
+    if is_cut(reader, a)? {
+        return Ok(false);
     }
-    if is_cut(b) {
-        return false;
+    if is_cut(reader, b)? {
+        return Ok(false);
     }
     let v = candidate::verify(query, a, b, l);
-    printing::text(b"verify ");
+    printing::text(out, b"verify ")?;
     match v {
-        Verdict::Yes => printing::text(b"yes"),
+        Verdict::Yes => printing::text(out, b"yes")?,
         Verdict::No(i) => {
-            printing::text(b"no ");
-            printing::number(i as u64);
+            printing::text(out, b"no ")?;
+            printing::number(out, i as u64)?;
         }
-        Verdict::Refused(r) => printing::refused(r),
+        Verdict::Refused(r) => printing::refused(out, r)?,
     }
-    printing::text(b"\n");
-    true
+    printing::text(out, b"\n")?;
+    Ok(true)
 }
 
-fn verify(c: Call) -> bool {
+fn verify<R: Read, W: Write>(reader: &mut R, out: &mut W, c: Call) -> io::Result<bool> {
     let x = c.x as usize;
     let y = c.y as usize;
     let z = c.z as usize;
     let mut query = [0u8; 65536];
     let mut a = [0u8; 65536];
     let mut b = [0u8; 65536];
-    verify_in(&mut query[0..x], &mut a[0..y], &mut b[0..z], c.number)
+    verify_in(
+        reader,
+        out,
+        &mut query[0..x],
+        &mut a[0..y],
+        &mut b[0..z],
+        c.number,
+    )
 }
 
-fn generate_in(c: Call, a: &mut [u8], b: &mut [u8], cells: &mut [u8]) -> bool {
-    if is_cut(a) {
-        return false;
+fn generate_in<R: Read, W: Write>(
+    reader: &mut R,
+    out: &mut W,
+    c: Call,
+    a: &mut [u8],
+    b: &mut [u8],
+    cells: &mut [u8],
+) -> io::Result<bool> {
+    if is_cut(reader, a)? {
+        return Ok(false);
     }
-    if is_cut(b) {
-        return false;
+    if is_cut(reader, b)? {
+        return Ok(false);
     }
     let o = candidate::generate(c.number, a, b, c.l as u32, cells);
-    printing::text(b"generate ");
-    outcome(o);
-    end_hash(hash(cells));
-    true
+    printing::text(out, b"generate ")?;
+    outcome(out, o)?;
+    end_hash(out, hash(cells))?;
+    Ok(true)
 }
 
-fn generate(c: Call) -> bool {
+fn generate<R: Read, W: Write>(reader: &mut R, out: &mut W, c: Call) -> io::Result<bool> {
     let fill = c.fill;
     let x = c.x as usize;
     let y = c.y as usize;
@@ -337,51 +363,63 @@ fn generate(c: Call) -> bool {
     let mut a = [0u8; 65536];
     let mut b = [0u8; 65536];
     let mut cells = [fill; 65536];
-    generate_in(c, &mut a[0..x], &mut b[0..y], &mut cells[0..z])
+    generate_in(reader, out, c, &mut a[0..x], &mut b[0..y], &mut cells[0..z])
 }
 
-fn synthesize_in(query: &mut [u8], entry: &mut [u8]) -> bool {
-    if is_cut(query) {
-        return false;
+fn synthesize_in<R: Read, W: Write>(
+    reader: &mut R,
+    out: &mut W,
+    query: &mut [u8],
+    entry: &mut [u8],
+) -> io::Result<bool> {
+    if is_cut(reader, query)? {
+        return Ok(false);
     }
     let o = catalogue::synthesize(query, entry);
-    printing::text(b"synthesize ");
-    outcome(o);
-    end_hash(hash(entry));
-    true
+    printing::text(out, b"synthesize ")?;
+    outcome(out, o)?;
+    end_hash(out, hash(entry))?;
+    Ok(true)
 }
 
-fn synthesize(c: Call) -> bool {
+fn synthesize<R: Read, W: Write>(reader: &mut R, out: &mut W, c: Call) -> io::Result<bool> {
     let fill = c.fill;
     let x = c.x as usize;
     let y = c.y as usize;
     let mut query = [0u8; 65536];
     let mut entry = [fill; 65536];
-    synthesize_in(&mut query[0..x], &mut entry[0..y])
+    synthesize_in(reader, out, &mut query[0..x], &mut entry[0..y])
 }
 
-fn look_up_in(query: &mut [u8], records: &mut [u8], who: u32, entry: &mut [u8]) -> bool {
-    if is_cut(query) {
-        return false;
+fn look_up_in<R: Read, W: Write>(
+    reader: &mut R,
+    out: &mut W,
+    query: &mut [u8],
+    records: &mut [u8],
+    who: u32,
+    entry: &mut [u8],
+) -> io::Result<bool> {
+    if is_cut(reader, query)? {
+        return Ok(false);
     }
-    if is_cut(records) {
-        return false;
+    if is_cut(reader, records)? {
+        return Ok(false);
     }
     let u = catalogue::look_up(query, records, who as u64, entry);
-    printing::text(b"look_up ");
+    printing::text(out, b"look_up ")?;
     match u {
         LookedUp::Found(i) => {
-            printing::text(b"found ");
-            printing::number(i as u64);
+            printing::text(out, b"found ")?;
+            printing::number(out, i as u64)?;
         }
-        LookedUp::Made => printing::text(b"made"),
-        LookedUp::Refused(r) => printing::refused(r),
+        LookedUp::Made => printing::text(out, b"made")?,
+        LookedUp::Refused(r) => printing::refused(out, r)?,
     }
-    end_hash(hash(entry));
-    true
+    end_hash(out, hash(entry))?;
+    Ok(true)
 }
 
-fn look_up(c: Call) -> bool {
+fn look_up<R: Read, W: Write>(reader: &mut R, out: &mut W, c: Call) -> io::Result<bool> {
     let fill = c.fill;
     let x = c.x as usize;
     let y = c.y as usize;
@@ -390,6 +428,8 @@ fn look_up(c: Call) -> bool {
     let mut records = [0u8; 65536];
     let mut entry = [fill; 65536];
     look_up_in(
+        reader,
+        out,
         &mut query[0..x],
         &mut records[0..y],
         c.number,
@@ -398,62 +438,79 @@ fn look_up(c: Call) -> bool {
 }
 
 // A sheet is not lent: its records are those of the log, and the room only counts them.
-fn trace_in(s: Sequence, a: &mut [u8], b: &mut [u8], room: u32) {
+fn trace_in<W: Write>(
+    out: &mut W,
+    s: Sequence,
+    a: &mut [u8],
+    b: &mut [u8],
+    room: u32,
+) -> io::Result<()> {
     let mut log = [0u64; LOG];
     let w = sequence::work(s, a, b, room as usize, &mut log);
-    printing::text(b"trace ");
+    printing::text(out, b"trace ")?;
     let r = w.reply;
-    reported(r);
-    print_hash(hash(a));
-    print_hash(hash(b));
-    end_hash(hash_log(&log, w.count));
+    reported(out, r)?;
+    print_hash(out, hash(a))?;
+    print_hash(out, hash(b))?;
+    end_hash(out, hash_log(&log, w.count))
 }
 
-fn trace(s: Sequence, c: Call) -> Turn {
+fn trace<W: Write>(out: &mut W, s: Sequence, c: Call) -> io::Result<Turn> {
     let fill = c.fill;
     let x = c.x as usize;
     let y = c.y as usize;
     let mut a = [fill; 65536];
     let mut b = [fill; 65536];
-    trace_in(s, &mut a[0..x], &mut b[0..y], c.number);
-    kept(s, true)
+    trace_in(out, s, &mut a[0..x], &mut b[0..y], c.number)?;
+    kept(true, out, s)
 }
 
-fn read_line_in(line: &mut [u8], query: &mut [u8]) -> bool {
-    if is_cut(line) {
-        return false;
+fn read_line_in<R: Read, W: Write>(
+    reader: &mut R,
+    out: &mut W,
+    line: &mut [u8],
+    query: &mut [u8],
+) -> io::Result<bool> {
+    if is_cut(reader, line)? {
+        return Ok(false);
     }
     let o = lines::read_line(line, query);
-    printing::text(b"read_line ");
-    outcome(o);
-    end_hash(hash(query));
-    true
+    printing::text(out, b"read_line ")?;
+    outcome(out, o)?;
+    end_hash(out, hash(query))?;
+    Ok(true)
 }
 
-fn read_line(c: Call) -> bool {
+fn read_line<R: Read, W: Write>(reader: &mut R, out: &mut W, c: Call) -> io::Result<bool> {
     let fill = c.fill;
     let x = c.x as usize;
     let y = c.y as usize;
     let mut line = [0u8; 65536];
     let mut query = [fill; 65536];
-    read_line_in(&mut line[0..x], &mut query[0..y])
+    read_line_in(reader, out, &mut line[0..x], &mut query[0..y])
 }
 
-fn merge_in(first: &mut [u8], second: &mut [u8], query: &mut [u8]) -> bool {
-    if is_cut(first) {
-        return false;
+fn merge_in<R: Read, W: Write>(
+    reader: &mut R,
+    out: &mut W,
+    first: &mut [u8],
+    second: &mut [u8],
+    query: &mut [u8],
+) -> io::Result<bool> {
+    if is_cut(reader, first)? {
+        return Ok(false);
     }
-    if is_cut(second) {
-        return false;
+    if is_cut(reader, second)? {
+        return Ok(false);
     }
     let o = merge::merge(first, second, query);
-    printing::text(b"merge ");
-    outcome(o);
-    end_hash(hash(query));
-    true
+    printing::text(out, b"merge ")?;
+    outcome(out, o)?;
+    end_hash(out, hash(query))?;
+    Ok(true)
 }
 
-fn merge(c: Call) -> bool {
+fn merge<R: Read, W: Write>(reader: &mut R, out: &mut W, c: Call) -> io::Result<bool> {
     let fill = c.fill;
     let x = c.x as usize;
     let y = c.y as usize;
@@ -461,70 +518,90 @@ fn merge(c: Call) -> bool {
     let mut first = [0u8; 65536];
     let mut second = [0u8; 65536];
     let mut query = [fill; 65536];
-    merge_in(&mut first[0..x], &mut second[0..y], &mut query[0..z])
+    merge_in(
+        reader,
+        out,
+        &mut first[0..x],
+        &mut second[0..y],
+        &mut query[0..z],
+    )
 }
 
-fn period_length_in(cells: &mut [u8]) -> bool {
-    if is_cut(cells) {
-        return false;
+fn period_length_in<R: Read, W: Write>(
+    reader: &mut R,
+    out: &mut W,
+    cells: &mut [u8],
+) -> io::Result<bool> {
+    if is_cut(reader, cells)? {
+        return Ok(false);
     }
     let m = period::period_length(cells);
-    printing::text(b"period_length ");
+    printing::text(out, b"period_length ")?;
     match m {
         Measured::Length(l) => {
-            printing::text(b"length ");
-            printing::number(l as u64);
+            printing::text(out, b"length ")?;
+            printing::number(out, l as u64)?;
         }
-        Measured::Refused(r) => printing::refused(r),
+        Measured::Refused(r) => printing::refused(out, r)?,
     }
-    end_hash(hash(cells));
-    true
+    end_hash(out, hash(cells))?;
+    Ok(true)
 }
 
-fn period_length(c: Call) -> bool {
+fn period_length<R: Read, W: Write>(reader: &mut R, out: &mut W, c: Call) -> io::Result<bool> {
     let x = c.x as usize;
     let mut cells = [0u8; 65536];
-    period_length_in(&mut cells[0..x])
+    period_length_in(reader, out, &mut cells[0..x])
 }
 
 // The payload of an enumeration and of a tally is of one size, whatever the buffer's is.
-fn enumerate_in(modulus: u32, query: &mut [u8]) -> bool {
+fn enumerate_in<R: Read, W: Write>(
+    reader: &mut R,
+    out: &mut W,
+    modulus: u32,
+    query: &mut [u8],
+) -> io::Result<bool> {
     let mut payload = [0u8; 12];
-    if is_cut(&mut payload) {
-        return false;
+    if is_cut(reader, &mut payload)? {
+        return Ok(false);
     }
     let n = parse_numbered(&payload);
     let o = enumeration::enumerate(modulus, n.count, n.number, query);
-    printing::text(b"enumerate ");
-    outcome(o);
-    end_hash(hash(query));
-    true
+    printing::text(out, b"enumerate ")?;
+    outcome(out, o)?;
+    end_hash(out, hash(query))?;
+    Ok(true)
 }
 
-fn enumerate(c: Call) -> bool {
+fn enumerate<R: Read, W: Write>(reader: &mut R, out: &mut W, c: Call) -> io::Result<bool> {
     let fill = c.fill;
     let x = c.x as usize;
     let mut query = [fill; 65536];
-    enumerate_in(c.number, &mut query[0..x])
+    enumerate_in(reader, out, c.number, &mut query[0..x])
 }
 
-fn tally_in(modulus: u32, cells: &mut [u8]) -> bool {
+fn tally_in<R: Read, W: Write>(
+    reader: &mut R,
+    out: &mut W,
+    modulus: u32,
+    cells: &mut [u8],
+) -> io::Result<bool> {
     let mut payload = [0u8; 4];
-    if is_cut(&mut payload) {
-        return false;
+    if is_cut(reader, &mut payload)? {
+        return Ok(false);
     }
     let o = enumeration::tally(modulus, parse_count(&payload), cells);
-    printing::text(b"tally ");
-    outcome(o);
-    end_hash(hash(cells));
-    true
+    printing::text(out, b"tally ")?;
+    outcome(out, o)?;
+    end_hash(out, hash(cells))?;
+    Ok(true)
 }
 
-fn tally(c: Call) -> bool {
+fn tally<R: Read, W: Write>(reader: &mut R, out: &mut W, c: Call) -> io::Result<bool> {
     let fill = c.fill;
     let x = c.x as usize;
     let mut cells = [fill; 65536];
-    tally_in(c.number, &mut cells[0..x])
+    tally_in(reader, out, c.number, &mut cells[0..x])
 }
 
 // A number with the fill byte in each of its eight bytes, lent for a reply.
@@ -540,50 +617,55 @@ fn mixed_long(h: u32, v: u64) -> u32 {
 // The hash of the bytes of numbers, eight for each.
 fn hash_numbers(numbers: &[u64]) -> u32 {
     let mut h = START;
-    let mut i: usize = 0;
-    while i < numbers.len() {
-        h = mixed_long(h, numbers[i]);
-        i += 1;
+    for number in numbers {
+        h = mixed_long(h, *number);
     }
     h
 }
 
-fn print_counts(found: usize, made: usize, refused: usize) {
-    printing::text(b"found ");
-    printing::number(found as u64);
-    printing::text(b" made ");
-    printing::number(made as u64);
-    printing::text(b" refused ");
-    printing::number(refused as u64);
+fn print_counts<W: Write>(
+    out: &mut W,
+    found: usize,
+    made: usize,
+    refused: usize,
+) -> io::Result<()> {
+    printing::text(out, b"found ")?;
+    printing::number(out, found as u64)?;
+    printing::text(out, b" made ")?;
+    printing::number(out, made as u64)?;
+    printing::text(out, b" refused ")?;
+    printing::number(out, refused as u64)
 }
 
-fn look_up_batch_in(
+fn look_up_batch_in<R: Read, W: Write>(
+    reader: &mut R,
+    out: &mut W,
     queries: &mut [u8],
     records: &mut [u8],
     who: u32,
     entries: &mut [u8],
     replies: &mut [u64],
-) -> bool {
-    if is_cut(queries) {
-        return false;
+) -> io::Result<bool> {
+    if is_cut(reader, queries)? {
+        return Ok(false);
     }
-    if is_cut(records) {
-        return false;
+    if is_cut(reader, records)? {
+        return Ok(false);
     }
     let b = batch::look_up_batch(queries, records, who as u64, entries, replies);
-    printing::text(b"look_up_batch ");
+    printing::text(out, b"look_up_batch ")?;
     let o = b.outcome;
     match o {
-        Outcome::Done => print_counts(b.found, b.made, b.refused),
-        Outcome::Refused(r) => printing::refused(r),
+        Outcome::Done => print_counts(out, b.found, b.made, b.refused)?,
+        Outcome::Refused(r) => printing::refused(out, r)?,
     }
-    print_hash(hash(entries));
-    end_hash(hash_numbers(replies));
-    true
+    print_hash(out, hash(entries))?;
+    end_hash(out, hash_numbers(replies))?;
+    Ok(true)
 }
 
 // The replies are counted in numbers where a run has its length.
-fn look_up_batch(c: Call) -> bool {
+fn look_up_batch<R: Read, W: Write>(reader: &mut R, out: &mut W, c: Call) -> io::Result<bool> {
     let fill = c.fill;
     let x = c.x as usize;
     let y = c.y as usize;
@@ -595,6 +677,8 @@ fn look_up_batch(c: Call) -> bool {
     let number = filled(fill);
     let mut replies = [number; 65536];
     look_up_batch_in(
+        reader,
+        out,
         &mut queries[0..x],
         &mut records[0..y],
         c.number,
@@ -603,76 +687,80 @@ fn look_up_batch(c: Call) -> bool {
     )
 }
 
-fn forge(s: Sequence, c: Call) -> Turn {
+fn forge<R: Read, W: Write>(reader: &mut R, out: &mut W, s: Sequence, c: Call) -> io::Result<Turn> {
     if c.x as usize != QUERY_BYTES {
-        printing::text(b"script bad forge\n");
-        return stopped(s);
+        printing::text(out, b"script bad forge\n")?;
+        return Ok(stopped(s));
     }
     let mut query = [0u8; QUERY_BYTES];
-    if is_cut(&mut query) {
-        return kept(s, false);
+    if is_cut(reader, &mut query)? {
+        return kept(false, out, s);
     }
-    printing::text(b"forge ok");
+    printing::text(out, b"forge ok")?;
     let q = sequence::check(&query);
-    held(q.sequence)
+    held(out, q.sequence)
 }
 
-fn unknown(s: Sequence, operation: u8) -> Turn {
-    printing::text(b"script unknown ");
-    printing::number(operation as u64);
-    printing::text(b"\n");
-    stopped(s)
+fn unknown<W: Write>(out: &mut W, s: Sequence, operation: u8) -> io::Result<Turn> {
+    printing::text(out, b"script unknown ")?;
+    printing::number(out, operation as u64)?;
+    printing::text(out, b"\n")?;
+    Ok(stopped(s))
 }
 
-fn act(s: Sequence, c: Call) -> Turn {
+fn act<R: Read, W: Write>(reader: &mut R, out: &mut W, s: Sequence, c: Call) -> io::Result<Turn> {
     let operation = c.operation;
     match operation {
-        0 => open(c.number),
-        1 => push(s, c.number),
-        2 => register(s, c),
-        3 => profile(s, c),
-        4 => kept(s, verify(c)),
-        5 => kept(s, generate(c)),
-        6 => kept(s, synthesize(c)),
-        7 => kept(s, look_up(c)),
-        8 => forge(s, c),
-        9 => trace(s, c),
-        10 => kept(s, read_line(c)),
-        11 => push_all(s, c),
-        12 => kept(s, merge(c)),
-        13 => kept(s, period_length(c)),
-        14 => kept(s, enumerate(c)),
-        15 => kept(s, tally(c)),
-        16 => kept(s, look_up_batch(c)),
-        _ => unknown(s, operation),
+        0 => open(out, c.number),
+        1 => push(out, s, c.number),
+        2 => register(out, s, c),
+        3 => profile(out, s, c),
+        4 => kept(verify(reader, out, c)?, out, s),
+        5 => kept(generate(reader, out, c)?, out, s),
+        6 => kept(synthesize(reader, out, c)?, out, s),
+        7 => kept(look_up(reader, out, c)?, out, s),
+        8 => forge(reader, out, s, c),
+        9 => trace(out, s, c),
+        10 => kept(read_line(reader, out, c)?, out, s),
+        11 => push_all(reader, out, s, c),
+        12 => kept(merge(reader, out, c)?, out, s),
+        13 => kept(period_length(reader, out, c)?, out, s),
+        14 => kept(enumerate(reader, out, c)?, out, s),
+        15 => kept(tally(reader, out, c)?, out, s),
+        16 => kept(look_up_batch(reader, out, c)?, out, s),
+        _ => unknown(out, s, operation),
     }
 }
 
 // Makes the next call of the script.
-fn next(s: Sequence) -> Turn {
+fn next<R: Read, W: Write>(reader: &mut R, out: &mut W, s: Sequence) -> io::Result<Turn> {
     let mut h = [0u8; 16];
-    let n = io::read_full(STDIN_FILENO, &mut h);
+    let n = input::read_full(reader, &mut h)?;
     if n == 0 {
-        return stopped(s);
+        return Ok(stopped(s));
     }
     if n < 16 {
-        return kept(s, false);
+        return kept(false, out, s);
     }
-    act(s, parse(&h))
+    act(reader, out, s, parse(&h))
 }
 
-fn main() {
+// Makes the calls of the script in turn.
+fn replay<R: Read, W: Write>(reader: &mut R, out: &mut W) -> io::Result<()> {
     // Refused, so the sequence is the one of zeros.
     let o = sequence::open(0);
     let mut s = o.sequence;
-    let mut turns = u64::MAX;
-    while turns > 0 {
-        let t = next(s);
-        if t.going {
-            s = t.sequence;
-            turns = turns - 1;
-        } else {
-            return;
+    for _ in 0..u64::MAX {
+        let t = next(reader, out, s)?;
+        if !t.going {
+            break;
         }
+        s = t.sequence;
     }
+    out.flush()
+}
+
+fn main(rt: HostRuntime) -> io::Result<()> {
+    let mut out = BufWriter::new(rt.alloc(), rt.stdout())?;
+    replay(&mut rt.stdin(), &mut out)
 }

@@ -1,111 +1,125 @@
 // The working: queries on standard input, or typed lines where the one argument is "lines". For each the listing's line, whether that register is
 // the only one, then the records of its steps as a table; or its refusal alone.
+#![tactic(auto)]
+
 ghost use Rattle.std.specs.Prelude.{◌≡◌, [], ◌∷◌, ◌≤◌};
 ghost use Rattle.steps.specs.Sizes.{log_words};
 ghost use Rattle.cells.specs.Cell.{equal};
 
 use input::{CHUNK, LINE_ROOM, Taken};
-use libc::{STDERR_FILENO, STDIN_FILENO};
 use sequence::{A_BYTES, B_BYTES, Outcome, QUERY_BYTES, Refusal, Reported, Sequence};
+use std::env::{Env, FillError};
+use std::io;
+use std::io::{BufWriter, Read, Write};
 use steps::{LOG, StepRecord};
 
-fn row(r: StepRecord) {
-    printing::number(r.power as u64);
-    printing::field(r.k as u64);
-    printing::field(r.row as u64);
-    printing::field(r.length as u64);
-    printing::field(r.u as u64);
-    printing::field(r.theta as u64);
-    printing::field(r.g as u64);
-    printing::field(r.case as u64);
-    printing::text(b"\n");
+fn row<W: Write>(out: &mut W, r: StepRecord) -> io::Result<()> {
+    printing::number(out, r.power as u64)?;
+    printing::field(out, r.k as u64)?;
+    printing::field(out, r.row as u64)?;
+    printing::field(out, r.length as u64)?;
+    printing::field(out, r.u as u64)?;
+    printing::field(out, r.theta as u64)?;
+    printing::field(out, r.g as u64)?;
+    printing::field(out, r.case as u64)?;
+    printing::text(out, b"\n")
 }
 
 // The first records of a log.
-fn table(log: &[u64; LOG], count: usize)
+fn table<W: Write>(out: &mut W, log: &[u64; LOG], count: usize) -> io::Result<()>
     requires { count ≤ log_words }
 {
-    printing::text(b"power k row length u theta g case\n");
-    let mut i: usize = 0;
-    while i < count {
-        row(steps::entry(log, i));
-        i += 1;
+    printing::text(out, b"power k row length u theta g case\n")?;
+    for i in 0..count {
+        row(out, steps::entry(log, i))?;
     }
+    Ok(())
 }
 
 // The register and the working. The log has room for every sheet, so that nothing is refused here that `check` passes.
-fn show(s: Sequence) {
+fn show<W: Write>(out: &mut W, s: Sequence) -> io::Result<()> {
     let mut a = [0u8; A_BYTES];
     let mut b = [0u8; B_BYTES];
     let mut log = [0u64; LOG];
     let w = sequence::work(s, &mut a, &mut b, LOG, &mut log);
     let reply = w.reply;
-    printing::reported_line(s, reply, &a);
-    printing::uniqueness_line(reply);
+    printing::reported_line(out, s, reply, &a)?;
+    printing::uniqueness_line(out, reply)?;
     match reply {
-        Reported::Refused(_) => {}
-        Reported::Length(_, _) => table(&log, w.count),
+        Reported::Refused(_) => Ok(()),
+        Reported::Length(_, _) => table(out, &log, w.count),
     }
 }
 
-fn one(query: &[u8]) {
+fn one<W: Write>(out: &mut W, query: &[u8]) -> io::Result<()> {
     let c = sequence::check(query);
-    let o = c.outcome;
-    match o {
-        Outcome::Refused(r) => printing::refusal_line(r),
-        Outcome::Done => {
-            let s = c.sequence;
-            show(s);
-        }
+    match c.outcome {
+        Outcome::Refused(r) => printing::refusal_line(out, r),
+        Outcome::Done => show(out, c.sequence),
     }
 }
 
-// Reads one query; says whether to go on.
-fn next() -> bool {
+// Reads one query and answers it; says whether to go on.
+fn next<R: Read, W: Write>(reader: &mut R, out: &mut W) -> io::Result<bool> {
     let mut query = [0u8; QUERY_BYTES];
-    let n = io::read_full(STDIN_FILENO, &mut query);
+    let n = input::read_full(reader, &mut query)?;
     if n == 0 {
-        return false;
+        return Ok(false);
     }
-    one(&query[..n]);
-    true
+    one(out, &query[..n])?;
+    Ok(true)
 }
 
-fn queries() {
-    printing::header_line();
-    let mut turns = u64::MAX;
-    while turns > 0 && next() {
-        turns = turns - 1;
-    }
-}
-
-fn answer(line: &[u8]) {
-    let mut query = [0u8; QUERY_BYTES];
-    let o = lines::read_line(line, &mut query);
-    match o {
-        Outcome::Refused(r) => printing::refusal_line(r),
-        Outcome::Done => one(&query),
-    }
-}
-
-fn typed_lines() {
-    printing::header_line();
-    let mut chunk = [0u8; CHUNK];
-    let mut room = [0u8; LINE_ROOM];
-    let read: &mut [u8] = &mut chunk;
-    let line: &mut [u8] = &mut room;
-    let mut source = input::start();
-    let mut turns = u64::MAX;
-    while turns > 0 {
-        let t = input::next_line(source, read, line);
-        source = t.source;
-        let taken = t.taken;
-        match taken {
-            Taken::Line(n) => answer(&line[..n]),
-            Taken::TooLong => printing::refusal_line(Refusal::Buffer),
-            Taken::Ended => return,
+fn queries<R: Read, W: Write>(reader: &mut R, out: &mut W) -> io::Result<()> {
+    printing::header_line(out)?;
+    for _ in 0..u64::MAX {
+        if !next(reader, out)? {
+            break;
         }
-        turns = turns - 1;
+    }
+    out.flush()
+}
+
+fn answer<W: Write>(out: &mut W, line: &[u8]) -> io::Result<()> {
+    let mut query = [0u8; QUERY_BYTES];
+    match lines::read_line(line, &mut query) {
+        Outcome::Refused(r) => printing::refusal_line(out, r),
+        Outcome::Done => one(out, &query),
+    }
+}
+
+// What is printed goes out before each line is awaited, so that a person at a terminal has the answer to the last one.
+fn typed_lines<R: Read, W: Write>(reader: &mut R, out: &mut W) -> io::Result<()> {
+    printing::header_line(out)?;
+    let mut chunk = [0u8; CHUNK];
+    let mut line = [0u8; LINE_ROOM];
+    let mut source = input::start();
+    for _ in 0..u64::MAX {
+        out.flush()?;
+        let t = input::next_line(reader, source, &mut chunk, &mut line)?;
+        source = t.source;
+        match t.taken {
+            Taken::Line(n) => answer(out, &line[..n])?,
+            Taken::TooLong => printing::refusal_line(out, Refusal::Buffer)?,
+            Taken::Ended => break,
+        }
+    }
+    Ok(())
+}
+
+// What the arguments ask for.
+enum Mode {
+    Queries,
+    Lines,
+    Usage,
+}
+
+// Whether there is an argument at this place, however long it is.
+fn is_given<E: Env>(env: &E, place: usize) -> bool {
+    let mut none = [0u8; 0];
+    match env.arg(place, &mut none) {
+        Err(FillError::NotPresent) => false,
+        _ => true,
     }
 }
 
@@ -116,19 +130,30 @@ fn is_lines(word: &[u8]) -> bool
 }
 
 // Whether the first argument is "lines"; one that does not fit here is not.
-fn wants_lines() -> bool {
+fn wants_lines<E: Env>(env: &E) -> bool {
     let mut word = [0u8; 5];
-    let n = os::arg(1, &mut word);
-    is_lines(&word[..n])
+    match env.arg(1, &mut word) {
+        Ok(n) => is_lines(&word[..n]),
+        Err(_) => false,
+    }
 }
 
-fn main() {
-    let words = os::arg_count();
-    if words < 2 {
-        queries();
-    } else if words == 2 && wants_lines() {
-        typed_lines();
-    } else {
-        io::write_all(STDERR_FILENO, b"usage: working [lines]\n");
+fn wanted<E: Env>(env: &E) -> Mode {
+    if !is_given(env, 1) {
+        return Mode::Queries;
+    }
+    if !is_given(env, 2) && wants_lines(env) {
+        return Mode::Lines;
+    }
+    Mode::Usage
+}
+
+fn main(rt: HostRuntime) -> io::Result<()> {
+    let mut reader = rt.stdin();
+    let mut out = BufWriter::new(rt.alloc(), rt.stdout())?;
+    match wanted(&rt) {
+        Mode::Queries => queries(&mut reader, &mut out),
+        Mode::Lines => typed_lines(&mut reader, &mut out),
+        Mode::Usage => eprintln!(rt; "usage: working [lines]"),
     }
 }
