@@ -70,7 +70,7 @@ module _ {mark : List ℕ} {f : ℕ → ℕ} {d : ℕ} {out₀ : List ℕ} {k : 
           ∙ ap (each_after mark) (sym (tabulate_last i f))
           ∙ ap (λ (j : ℕ). each_after mark (tabulate j f)) (let s : suc i ≡ i + 1 = omega arith in s)
 
-  pub sofar_all : d ≤ i → Put out₀ k (each_after mark (tabulate d f)) out end × (end ≤ k + 21 * d)
+  pub sofar_all : d ≤ i → record { put : Put out₀ k (each_after mark (tabulate d f)) out end; upper_bound : end ≤ k + 21 * d }
   sofar_all h =
       let e : i ≡ d = omega (arith, x.within) in
-      (put_as (ap (λ (j : ℕ). each_after mark (tabulate j f)) e) x.text, omega (arith, x.room))
+      record { put = put_as (ap (λ (j : ℕ). each_after mark (tabulate j f)) e) x.text; upper_bound = omega (arith, x.room) }

@@ -30,21 +30,21 @@ pub const LINE_BYTES: usize = 21 * (4 + CELLS);
 const NUMBER_LIMIT: u64 = 4294967296;
 
 // A number below that limit, or none.
-#[derive(Drop)]
+#[derive(Clone, Copy)]
 enum Number {
     Value(u32),
     NoNumber,
 }
 
 // What a typed line of the census says: a modulus and a count, or neither.
-#[derive(Drop)]
+#[derive(Clone, Copy)]
 pub enum Pair {
     Numbers(u32, u32),
     NoPair,
 }
 
 // Where the line ends that answers a typed one, and whether the census goes on.
-#[derive(Drop)]
+#[derive(Clone, Copy)]
 pub struct Answered {
     pub end: usize,
     pub going: bool,

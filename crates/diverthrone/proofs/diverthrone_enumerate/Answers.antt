@@ -1,0 +1,20 @@
+-- `diverthrone_enumerate` meets its contract: each outcome goes to its number.
+-- Assumes nothing.
+use mathlib.Core.Path.{sym, ap, ◌∙◌}
+use borrow.Author.Rules.{rules}
+use Rattle.sequence.specs.Answers.{outcome_answer}
+use Rattle.sequence.specs.declared.Outcome.{Outcome}
+use Rattle.sequence.specs.Report.{filled}
+use Rattle.enumeration.specs.Rules.{query_numbered}
+use Rattle.codes.specs.Codes.{code_of}
+use Rattle.diverthrone.proofs.diverthrone_enumerate.Goals as goal
+
+pub returns-in-Done : goal.returns-in-Done
+returns-in-Done c =
+    let s = c.args in
+    record { value = ap (λ (z : Outcome). code_of (outcome_answer z)) (sym c.in-Done.is) ∙ ap code_of c.enumerate-o.ensures.result_value; query_after = c.enumerate-o.ensures.query_after ∙ ap (λ (z : Outcome). filled z (query_numbered s.modulus s.count s.number) s.query.now) c.enumerate-o.ensures.value }
+
+pub returns-in-Refused : goal.returns-in-Refused
+returns-in-Refused c =
+    let s = c.args in
+    record { value = c.refused.ensures ∙ ap (λ (z : Outcome). code_of (outcome_answer z)) (sym c.in-Refused.is) ∙ ap code_of c.enumerate-o.ensures.result_value; query_after = c.enumerate-o.ensures.query_after ∙ ap (λ (z : Outcome). filled z (query_numbered s.modulus s.count s.number) s.query.now) c.enumerate-o.ensures.value }
