@@ -33,12 +33,7 @@ pub fn diverthrone_synthesize(query: &[u8], out: &mut [u8]) -> u64
 
 // Looks a query up in a catalogue for who asks: 1 is an editor, any other number a visitor.
 // Rejected: one that says made before it looks; one that serves a record whose place it does not tell; one that cuts who asks to 32 bits.
-pub fn diverthrone_look_up(
-    query: &[u8],
-    catalogue: &[u8],
-    who: u64,
-    out: &mut [u8],
-) -> u64
+pub fn diverthrone_look_up(query: &[u8], catalogue: &[u8], who: u64, out: &mut [u8]) -> u64
     ensures value { result ≡ code_of (look_up_answer query.now catalogue.now out.old) }
     ensures out_after { out.new ≡ served_in who (look_up_of query.now catalogue.now out.old) query.now catalogue.now out.old }
 {
@@ -65,13 +60,7 @@ pub fn diverthrone_verify(query: &[u8], a: &[u8], b: &[u8], length: u32) -> u64
 
 // Runs a candidate for as many cells as are lent.
 // Rejected: one that fills all cells but the last; one that runs a candidate with a_0 = 2.
-pub fn diverthrone_generate(
-    modulus: u32,
-    a: &[u8],
-    b: &[u8],
-    length: u32,
-    out: &mut [u8],
-) -> u64
+pub fn diverthrone_generate(modulus: u32, a: &[u8], b: &[u8], length: u32, out: &mut [u8]) -> u64
     ensures value { result ≡ code_of (generate_answer modulus a.now b.now length out.old) }
     ensures out_after { out.new ≡ generated_in (generate_of modulus a.now b.now length out.old) modulus a.now b.now length out.old }
 {
@@ -122,12 +111,7 @@ pub fn diverthrone_period_length(cells: &[u8]) -> u64
 
 // Writes the query of the sequence of count terms with this number.
 // Rejected: one that cuts the number to 32 bits; one that clears the query's bytes before it refuses.
-pub fn diverthrone_enumerate(
-    modulus: u32,
-    count: u32,
-    number: u64,
-    query: &mut [u8],
-) -> u64
+pub fn diverthrone_enumerate(modulus: u32, count: u32, number: u64, query: &mut [u8]) -> u64
     ensures value { result ≡ code_of (enumerate_answer modulus count number query.old) }
     ensures query_after { query.new ≡ filled (enumerate_of modulus count number query.old) (query_numbered modulus count number) query.old }
 {

@@ -1,7 +1,6 @@
 -- `diverthrone_generate` meets its contract: each outcome goes to its number.
 -- Assumes nothing.
 use mathlib.Core.Path.{sym, ap, ◌∙◌}
-use borrow.Author.Rules.{rules}
 use Rattle.sequence.specs.Answers.{outcome_answer}
 use Rattle.sequence.specs.declared.Outcome.{Outcome}
 use Rattle.candidate.specs.Rules.{generated_in}

@@ -2,7 +2,6 @@
 -- Assumes nothing.
 use native.Mathlib.Omega.{arith}
 use Rattle.batch.proofs.Whole.{counts_small, done_code, refused_code, records_told, replies_told}
-use borrow.Author.Rules.{rules}
 use Rattle.diverthrone.proofs.diverthrone_look_up_batch.Goals as goal
 
 pub counts-requires : goal.counts-requires

@@ -1,7 +1,6 @@
 -- `diverthrone_verify` meets its contract: each verdict goes to its number.
 -- Assumes nothing.
 use mathlib.Core.Path.{sym, ap, ◌∙◌}
-use borrow.Author.Rules.{rules}
 use Rattle.candidate.specs.declared.Verdict.{Verdict}
 use Rattle.candidate.specs.Rules.{verdict_answer}
 use Rattle.codes.specs.Codes.{code_of}
@@ -12,7 +11,7 @@ pub returns-in-Yes : goal.returns-in-Yes
 returns-in-Yes c = ap (λ (z : Verdict). code_of (verdict_answer z)) (sym c.in-Yes.is) ∙ ap code_of c.verify-v.ensures.result_value
 
 pub returns-in-No : goal.returns-in-No
-returns-in-No c = valued c.in-No.payload.0.0 ∙ ap (λ (z : Verdict). code_of (verdict_answer z)) (sym c.in-No.is) ∙ ap code_of c.verify-v.ensures.result_value
+returns-in-No c = valued c.in-No.i ∙ ap (λ (z : Verdict). code_of (verdict_answer z)) (sym c.in-No.is) ∙ ap code_of c.verify-v.ensures.result_value
 
 pub returns-in-Refused : goal.returns-in-Refused
 returns-in-Refused c = c.refused.ensures ∙ ap (λ (z : Verdict). code_of (verdict_answer z)) (sym c.in-Refused.is) ∙ ap code_of c.verify-v.ensures.result_value
