@@ -4,7 +4,7 @@ use mathlib.Core.Path.{◌≡◌, refl, sym, ap, ◌∙◌, subst}
 use mathlib.Core.Logic.{◌⊎◌, inl, inr}
 use mathlib.Core.Bool.{false}
 use mathlib.Core.List.{List}
-use Prim.Native.Nat.{ℕ, zero, suc, ◌-◌, ◌^◌, ◌≤◌, ◌<◌}
+use Prim.Native.Nat.{ℕ, zero, suc, ◌^◌, ◌≤◌, ◌<◌}
 use native.Mathlib.Decide.{ℕ_discrete}
 use native.Mathlib.Omega.{arith}
 use lib.Dec.{eqb}
@@ -115,8 +115,8 @@ module _ (m n : ℕ) where
         number_exactly = number_exactly x query;
         tally_reason = tally_reason cells;
         tally_exactly = tally_exactly cells;
-        number_by_number = (enumerate_told m n x query {r = enumerate_of m n x query} {A = Unit {0}} refl tt).1.1;
-        tally_by_number = (tally_told m n cells {r = tally_of m n cells} {A = Unit {0}} refl tt).1.1;
+        number_by_number = (enumerate_told m n x query {r = enumerate_of m n x query} {A = Unit {0}} refl tt).result_value;
+        tally_by_number = (tally_told m n cells {r = tally_of m n cells} {A = Unit {0}} refl tt).result_value;
         query_kept = kept (enumerate_of m n x query) (query_numbered m n x) query;
         cells_kept = kept (tally_of m n cells) (tally_cells m n) cells;
       }

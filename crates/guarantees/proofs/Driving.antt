@@ -127,12 +127,7 @@ module _ (m : ℕ) (codes list a₀ b₀ cells₀ : List ℕ) (s : Sequence) (a 
       (subst (λ (t : Sequence). ShownBy m (taken_by m list codes) t a b cells) (sym (ap (λ (x : State). x.sequence) reached ∙ after_all_lem list (state_of (open_of m).sequence a₀ b₀ cells₀) codes))
       ((demand m least most).shows (map (call_of list) codes) a b cells (same_a ∙ la) (same_b ∙ lb) (same_cells ∙ lc)))
 
-  pub driven :
-      ◌≡◌ {A = Replies} (record { reported = r; profiled = o }) (replies_of (driven_to m codes list a₀ b₀ cells₀))
-      × ((a' ≡ (ended (driven_to m codes list a₀ b₀ cells₀)).a)
-      × ((b' ≡ (ended (driven_to m codes list a₀ b₀ cells₀)).b)
-      × ((cells' ≡ (ended (driven_to m codes list a₀ b₀ cells₀)).cells)
-      × (2 ≤ m → m ≤ max_modulus → length a₀ ≡ a_bytes → length b₀ ≡ b_bytes → length cells₀ ≡ profile_bytes → Shows m (taken_by m list codes) r o a' b' cells'))))
+  pub driven : record { value : ◌≡◌ {A = Replies} (record { reported = r; profiled = o }) (replies_of (driven_to m codes list a₀ b₀ cells₀)); a_after : a' ≡ (ended (driven_to m codes list a₀ b₀ cells₀)).a; b_after : b' ≡ (ended (driven_to m codes list a₀ b₀ cells₀)).b; cells_after : cells' ≡ (ended (driven_to m codes list a₀ b₀ cells₀)).cells; shows : 2 ≤ m → m ≤ max_modulus → length a₀ ≡ a_bytes → length b₀ ≡ b_bytes → length cells₀ ≡ profile_bytes → Shows m (taken_by m list codes) r o a' b' cells' }
   driven =
       let e = left ∙ ap ended reached in
-      (replied ∙ ap replies_of reached, (ap (λ (x : State). x.a) e, (ap (λ (x : State). x.b) e, (ap (λ (x : State). x.cells) e, shown))))
+      record { value = replied ∙ ap replies_of reached; a_after = ap (λ (x : State). x.a) e; b_after = ap (λ (x : State). x.b) e; cells_after = ap (λ (x : State). x.cells) e; shows = shown }

@@ -184,7 +184,7 @@ module _ (line query : List ℕ) where
         is_modulus = is_modulus line query;
         is_count = is_count line query;
         is_done = is_done line query;
-        by_number = (read_told line query {r = read_of line query} {A = Unit {0}} refl tt).1.1;
+        by_number = (read_told line query {r = read_of line query} {A = Unit {0}} refl tt).result_value;
         by_hand = hand_written;
         kept = kept;
       }

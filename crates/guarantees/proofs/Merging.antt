@@ -439,7 +439,7 @@ two_queries x y query =
       apart_none = apart_never x y query;
       apart_first = apart_before x y query;
       none_apart = λ k i c d h l here never before. none_apart_told x y query c k i d h l here never before;
-      by_number = (merge_told x y query {r = merge_of x y query} {A = Unit {0}} refl tt).1.1;
+      by_number = (merge_told x y query {r = merge_of x y query} {A = Unit {0}} refl tt).result_value;
       kept = kept_told x y query;
       merged = merged_told x y query;
     }

@@ -168,7 +168,7 @@ module _ (cells : List ℕ) (n w : ℕ) (p : IsPeriod cells n w) (small : Digits
 
   -- the terms are digits
   repeats_below : (ts : List ℕ) → Repeats cells n ts → (j : ℕ) → j < length ts → at ts j < 2
-  repeats_below ts r j h = subst (λ (x : ℕ). x < 2) (sym (r.each j h)) (small (j % n) (mod-lt j some))
+  repeats_below us r j h = subst (λ (x : ℕ). x < 2) (sym (r.each j h)) (small (j % n) (mod-lt j some))
 
   written : (ts : List ℕ) → Repeats cells n ts → length ts ≤ max_terms → WrittenQuery ts
   written ts r few =
@@ -236,7 +236,7 @@ module _ (cells : List ℕ) where
   exactly r (told k w p small e) = length_told_lem cells k w p small ∙ sym e
 
   by_number : measured_answer (period_length_of cells) ≡ period_length_answer cells
-  by_number = (period_told cells refl).1
+  by_number = (period_told cells refl).result_value
 
   coded : (r : Measured) → period_length_of cells ≡ r → length_code_of (period_length_answer cells) ≡ length_code_of (measured_answer r)
   coded r e = ap length_code_of (sym by_number ∙ ap measured_answer e)

@@ -14,7 +14,7 @@ ghost use Rattle.guarantees.specs.Coded.{taken_by, state_of, after_code, driven_
 use sequence::{Outcome, Reported, Sequence};
 
 // What the last register and the last profile reply.
-#[derive(Drop)]
+#[derive(Clone, Copy)]
 pub struct Replies {
     pub reported: Reported,
     pub profiled: Outcome,
