@@ -17,7 +17,7 @@ use Rattle.input.specs.declared.Source.{Source}
 use Rattle.input.specs.declared.Taken.{Taken}
 use Rattle.input.specs.declared.Taken.TheVariants.{TooLong}
 use Rattle.input.specs.Marks.{longest, mark_in, rest_of, piece_of, left_of, is_marked, is_known}
-use Rattle.input.specs.Held.{Holds, taken_of, Fed, Told}
+use Rattle.input.specs.Held.{Holds, taken_of, Fed, Told, CutOff}
 use Rattle.input.proofs.Holding.{holds_none}
 use Rattle.input.proofs.Pieces.{mark_size, Fresh, fresh_rest, fresh_grows, unmarked_left}
 use Rattle.input.proofs.Replies.{told_many}
@@ -185,6 +185,19 @@ module _
           go : Begun start s₀ chunk₀ s chunk k.xs turns → rest_of s' chunk ≡ left_of (rest_of s₀ chunk₀)
           go (inl b) = l ∙ ap₂ (λ (t : Source) (c : List ℕ). left_of (rest_of t c)) b.0 b.1
           go (inr r) = false_true (sym r.unknown ∙ e)
+
+    -- the read that is needed fails
+    pub turn_failed : (s' : Source) → s'.open ≡ s.open → marked ≡ false → s'.open ≡ true → CutOff s₀ chunk₀ buffer'
+    turn_failed s' o e f =
+        record {
+          unknown = unknown_yet s' o e f k.begun;
+          xs = now;
+          unbroken = all_unbroken;
+          more = later k.begun;
+          begins = begins_still k.begun;
+          n = n';
+          holds = holds k.xs k.holds;
+        }
 
     -- a read is needed
     pub turn_again :

@@ -1,6 +1,7 @@
 -- A line in a buffer that may be too small for it, and what is replied of it.
 -- Assumes nothing.
-use Rattle.std.specs.Prelude.{◌≡◌, Bool, true, false, not, ◌⊎◌, List, [], ◌++◌, ℕ, ◌+◌, ◌≤◌, ◌<◌, min, eqb, ltb, length, take}
+use Rattle.std.specs.Prelude.{◌≡◌, Bool, true, false, not, ◌⊎◌, List, [], ◌++◌, ℕ, ◌+◌, ◌≤◌, ◌<◌, min, eqb, ltb, length, take, Option}
+use Rattle.std.specs.Io.KnownBytes.{Consumes}
 use Rattle.lists.specs.Choice.{pick, both}
 use Rattle.lists.specs.Table.{at}
 use Rattle.input.specs.declared.Source.{Source}
@@ -34,8 +35,8 @@ pub record Fed (chunk given left : List ℕ) : Type 0 where
   pub ends : given ≡ early ++ piece_of (take n chunk)
   pub next : left ≡ left_of (take n chunk)
 
--- The reply is that of some bytes without a line feed, which the buffer holds: those of the chunk, and where a read is needed more. What a
--- read gives no contract can say; but a line stops only at a line feed, at the end of the input, or where it is too long whatever follows.
+-- The reply is that of some bytes without a line feed, which the buffer holds: those of the chunk, and where a read is needed more. Which
+-- bytes a read gives is not said here; but a line stops only at a line feed, at the end of the input, or where it is too long whatever follows.
 pub record Told (s : Source) (chunk : List ℕ) (reply : Taken) (s' : Source) (chunk' buffer : List ℕ) : Type 0 where
   pub xs : List ℕ
   pub unbroken : mark_in xs ≡ length xs
@@ -48,3 +49,18 @@ pub record Told (s : Source) (chunk : List ℕ) (reply : Taken) (s' : Source) (c
   pub known : is_known s chunk ≡ true → (more ≡ []) × (marked ≡ is_marked (rest_of s chunk))
   pub read : is_known s chunk ≡ false → marked ≡ true → Fed chunk' more (rest_of s' chunk')
   pub whole : (marked ≡ true) ⊎ (((s'.open ≡ false) × (rest_of s' chunk' ≡ [])) ⊎ (longest + 1 < length xs))
+
+-- A read that fails came where no line was at hand. What was read of one has no line feed and begins with the chunk's piece, and the buffer
+-- holds it; what the chunk holds then nothing tells.
+pub record CutOff (s : Source) (chunk buffer : List ℕ) : Type 0 where
+  pub unknown : is_known s chunk ≡ false
+  pub xs : List ℕ
+  pub unbroken : mark_in xs ≡ length xs
+  pub more : List ℕ
+  pub begins : xs ≡ piece_of (rest_of s chunk) ++ more
+  pub n : ℕ
+  pub holds : Holds buffer n xs
+
+-- what was read of a reader, of which `before` was to come and `after` is still to come, stands at the start of a buffer
+abbrev pub StandsIn : Option (List ℕ) → Option (List ℕ) → List ℕ → Type 0
+StandsIn before after buffer = (n : ℕ) × (n ≤ length buffer) × Consumes before after (take n buffer)

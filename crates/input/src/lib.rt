@@ -7,7 +7,7 @@ ghost use Rattle.std.specs.Io.KnownBytes.{Consumes, IsAtEnd};
 ghost use Rattle.std.specs.Io.{ReadsAtMost};
 ghost use Rattle.lists.specs.Choice.{both};
 ghost use Rattle.input.specs.Marks.{longest, mark_in, length_of, rest_of, piece_of, left_of, is_marked, is_known};
-ghost use Rattle.input.specs.Held.{Holds, taken_of, within, Told};
+ghost use Rattle.input.specs.Held.{Holds, taken_of, within, Told, CutOff, StandsIn};
 
 use std::io;
 use std::io::Read;
@@ -203,8 +203,8 @@ fn take_piece(source: Source, chunk: &[u8], line: &mut [u8], held: usize) -> Pie
     }
 }
 
-// The next line, at the start of `line`, which has LINE_ROOM places. A read that fails is passed on: a line that is at hand never is one, and
-// what the buffers hold then is not told.
+// The next line, at the start of `line`, which has LINE_ROOM places. A read that fails is passed on, and nothing else is an error: a line that
+// is at hand never is one. `line` then holds what was read of the line.
 // Rejected: a line feed in a line; a byte lost that the chunk has at entry, of this line or of a later one; a byte skipped behind a line feed
 // that a read gave; the carriage return of an end mark kept; a line cut short in silence, or the end told, by a source that is still open.
 pub fn next_line<R: Read>(
@@ -216,7 +216,7 @@ pub fn next_line<R: Read>(
     ensures told { IfOk result (λ t. Told from chunk.old t.taken t.source chunk.new line.new) }
     ensures chunk_after { IfOk result (λ t. is_known from chunk.old ≡ true → rest_of t.source chunk.new ≡ left_of (rest_of from chunk.old)) }
     ensures within { IfOk result (λ t. within t.taken (length line.new)) }
-    ensures failed { OnErr result (is_known from chunk.old ≡ false) }
+    ensures failed { OnErr result (CutOff from chunk.old line.new) }
 {
     let mut source = from;
     let mut held: usize = 0;
@@ -236,11 +236,13 @@ pub fn next_line<R: Read>(
     Ok(Turn { taken, source })
 }
 
-// Reads until the buffer is full or the input ends; gives how many bytes stand at its start. A read that fails is passed on.
+// Reads until the buffer is full or the input ends; gives how many bytes stand at its start. A read that fails is passed on, and nothing else
+// is an error: what was read before it stands at the start.
 pub fn read_full<R: Read>(reader: &mut R, buffer: &mut [u8]) -> io::Result<usize>
     ensures in_bounds { ReadsAtMost result buffer.new }
     ensures bytes { IfOk result (λ n. Consumes (R.remaining reader.old) (R.remaining reader.new) (take n buffer.new)) }
     ensures ended { IfOk result (λ n. n < length buffer.new → IsAtEnd (R.remaining reader.new)) }
+    ensures failed { OnErr result (StandsIn (R.remaining reader.old) (R.remaining reader.new) buffer.new) }
 {
     let mut done: usize = 0;
     while done < buffer.len() {

@@ -164,6 +164,7 @@ fn least_of_odd(i: usize) -> u16
 
 // The least prime divisor of n. Only an odd number is looked up: 2 divides every even one.
 // Rejected: 4 looked up as 5; 2 for 0, which stands for itself.
+#[tactic(auto, using(crate::proofs::Divisors::of_zero, crate::proofs::Divisors::of_even, crate::proofs::Divisors::of_odd))]
 fn least_divisor(n: usize) -> u16
     requires { n < divisors_end }
     ensures { result ≡ least_divisor n }
