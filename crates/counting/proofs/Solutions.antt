@@ -260,7 +260,7 @@ module _ (p : ℕ) (P : Prime p) (S : List ℕ) (n : ℕ) where
       equal : (i : ℕ) → i < all_terms → at (ext x) i ≡ at (ext y) i
       equal i h = below all_terms (le_refl all_terms) i h
 
-  -- every list that generates the terms is met: let it go on to all-terms
+  -- every list that generates the terms is met: let it go on to all_terms
   module _ (y : ℕ) (hy : y < p ^ l) (zeros : Zeros p S n (list_at p l y)) where
     next : List ℕ → ℕ → ℕ
     next ts k = neg p (conv (at ts) (A y) k) % p

@@ -33,7 +33,7 @@ abbrev pub tallied_line : Outcome → ℕ → ℕ → List ℕ
 tallied_line O.Done m n = tally_line m n (tally_cells m n)
 tallied_line (O.Refused r) m n = refusal_line r
 
--- tallyIn (countedOf m n) is what a tally into a buffer of its length replies
+-- tally_in (counted_of m n) is what a tally into a buffer of its length replies
 unfoldable pub census_line : ℕ → ℕ → List ℕ
 census_line m n = tallied_line (tally_in (counted_of m n)) m n
 

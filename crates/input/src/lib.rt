@@ -30,21 +30,21 @@ pub struct Source {
 }
 
 // A line and its length, a line that is too long, or the end of the input.
-#[derive(Drop)]
+#[derive(Clone, Copy)]
 pub enum Taken {
     Line(usize),
     TooLong,
     Ended,
 }
 
-#[derive(Drop)]
+#[derive(Clone, Copy)]
 pub struct Turn {
     pub taken: Taken,
     pub source: Source,
 }
 
 // What is left after a piece of a line, how many of the line's bytes are held, and whether a line feed ended it.
-#[derive(Drop)]
+#[derive(Clone, Copy)]
 struct Piece {
     source: Source,
     held: usize,

@@ -64,7 +64,7 @@ pub fn of_signed(t: i32, m: u32) -> u32
 }
 
 // What Euclid's division finds for a and m: a x + m y = 1 + a m.
-#[derive(Drop)]
+#[derive(Clone, Copy)]
 struct Combination {
     x: u32,
     y: u32,
@@ -111,7 +111,7 @@ pub fn power(p: u32, e: usize) -> u32
 }
 
 // A number as theta p^u.
-#[derive(Drop)]
+#[derive(Clone, Copy)]
 pub struct Weight {
     pub u: usize,
     pub theta: u32,
@@ -179,7 +179,7 @@ fn least_divisor(n: usize) -> u16
 }
 
 // The least prime of a number with its exponent there, their power, and what is left of the number.
-#[derive(Drop)]
+#[derive(Clone, Copy)]
 pub struct Factor {
     pub prime: u32,
     pub exponent: usize,
