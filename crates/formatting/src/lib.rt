@@ -61,7 +61,7 @@ fn put(s: &[u8], out: &mut [u8], k: usize) -> usize
 }
 
 // A number in decimal.
-fn put_number(n: u64, out: &mut [u8], k: usize) -> usize
+pub fn put_number(n: u64, out: &mut [u8], k: usize) -> usize
     requires { k + 20 ≤ length out.old }
     ensures put { Put out.old k (numeral n) out.new result }
     ensures upper_bound { result ≤ k + 20 }
@@ -72,7 +72,7 @@ fn put_number(n: u64, out: &mut [u8], k: usize) -> usize
 }
 
 // A number behind a byte.
-fn put_behind(c: u8, n: u64, out: &mut [u8], k: usize) -> usize
+pub fn put_behind(c: u8, n: u64, out: &mut [u8], k: usize) -> usize
     requires { k + 21 ≤ length out.old }
     ensures put { Put out.old k (each_after (c ∷ []) (n ∷ [])) out.new result }
     ensures upper_bound { result ≤ k + 21 }

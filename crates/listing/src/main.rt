@@ -3,7 +3,7 @@
 
 use sequence::QUERY_BYTES;
 use std::io;
-use std::io::{BufWriter, Read, Write};
+use std::io::{Read, Write};
 
 // Reads one query and answers it; says whether to go on.
 fn next<R: Read, W: Write>(reader: &mut R, out: &mut W) -> io::Result<bool> {
@@ -23,10 +23,9 @@ fn list<R: Read, W: Write>(reader: &mut R, out: &mut W) -> io::Result<()> {
             break;
         }
     }
-    out.flush()
+    Ok(())
 }
 
 fn main(rt: HostRuntime) -> io::Result<()> {
-    let mut out = BufWriter::new(rt.alloc(), rt.stdout())?;
-    list(&mut rt.stdin(), &mut out)
+    list(&mut rt.stdin(), &mut rt.stdout())
 }

@@ -12,7 +12,7 @@ ghost use Rattle.steps.specs.Run.{Below, Setting};
 use catalogue::RECORD_BYTES;
 use sequence::{A_BYTES, B_BYTES, Outcome, QUERY_BYTES, Sequence};
 use std::io;
-use std::io::{BufWriter, Write};
+use std::io::Write;
 use steps::{CELLS, LOG, ROWS, Ring, StepRecord, TERMS};
 
 // The number of terms.
@@ -220,7 +220,7 @@ fn case_15<W: Write>(out: &mut W) -> io::Result<()> {
 }
 
 fn main(rt: HostRuntime) -> io::Result<()> {
-    let mut out = BufWriter::new(rt.alloc(), rt.stdout())?;
+    let mut out = rt.stdout();
     let mut s = [0u32; TERMS];
     s[0] = 6;
     s[1] = 3;
@@ -235,6 +235,5 @@ fn main(rt: HostRuntime) -> io::Result<()> {
     };
     table_1(&mut out, &s, ring)?;
     table_2(&mut out, &s, ring)?;
-    case_15(&mut out)?;
-    out.flush()
+    case_15(&mut out)
 }

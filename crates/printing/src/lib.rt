@@ -3,8 +3,10 @@
 // writer tells which bytes it holds, it holds these behind what it held.
 #![tactic(auto)]
 
-ghost use Rattle.std.specs.Prelude.{◌≡◌, ◌∷◌, ◌++◌, length, IfOk, OnOk, codes, decimal};
+ghost use Rattle.std.specs.Prelude.{◌≡◌, [], ◌∷◌, length, IfOk, OnOk, OnErr};
 ghost use Rattle.std.specs.Io.KnownBytes.{Appends};
+ghost use Rattle.printing.specs.Part.{AppendsPart};
+ghost use Rattle.formatting.specs.Text.{numeral, each_after};
 ghost use Rattle.sequence.specs.Limits.{a_bytes};
 ghost use Rattle.formatting.specs.Listing.{header, refusal_text, refusal_line, query_line, reported_line, uniqueness_text, uniqueness_line, typed_line};
 ghost use Rattle.formatting.specs.Census.{census_header, pair_in, no_pair_line, pair_line, is_pair};
@@ -12,30 +14,47 @@ ghost use Rattle.formatting.specs.Census.{census_header, pair_in, no_pair_line, 
 use formatting::LINE_BYTES;
 use sequence::{Refusal, Reported, Sequence, Uniqueness};
 use std::io;
-use std::io::Write;
+use std::io::{ErrorKind, Write};
 
+// Where a write fails a beginning of the text may have been taken, and a writer that takes nothing counts as one that fails.
 pub fn text<W: Write>(out: &mut W, s: &[u8]) -> io::Result<()>
-    ensures { OnOk result (Appends (W.contents out.old) (W.contents out.new) s.now) }
+    ensures written { OnOk result (Appends (W.contents out.old) (W.contents out.new) s.now) }
+    ensures failed { OnErr result (AppendsPart (W.contents out.old) (W.contents out.new) s.now) }
 {
-    out.write_all(s)
+    let mut done: usize = 0;
+    while done < s.len() {
+        let n = out.write(&s[done..])?;
+        if n == 0 {
+            return Err(io::Error::from(ErrorKind::WriteZero));
+        }
+        done += n;
+    }
+    Ok(())
 }
 
 pub fn number<W: Write>(out: &mut W, n: u64) -> io::Result<()>
-    ensures { OnOk result (Appends (W.contents out.old) (W.contents out.new) (decimal n)) }
+    ensures written { OnOk result (Appends (W.contents out.old) (W.contents out.new) (numeral n)) }
+    ensures failed { OnErr result (AppendsPart (W.contents out.old) (W.contents out.new) (numeral n)) }
 {
-    write!(out, "{n}")
+    let mut line = [0u8; LINE_BYTES];
+    let count = formatting::put_number(n, &mut line, 0);
+    text(out, &line[..count])
 }
 
 // A number behind a blank.
 pub fn field<W: Write>(out: &mut W, n: u64) -> io::Result<()>
-    ensures { OnOk result (Appends (W.contents out.old) (W.contents out.new) (codes " " ++ decimal n)) }
+    ensures written { OnOk result (Appends (W.contents out.old) (W.contents out.new) (each_after (32 ∷ []) (n ∷ []))) }
+    ensures failed { OnErr result (AppendsPart (W.contents out.old) (W.contents out.new) (each_after (32 ∷ []) (n ∷ []))) }
 {
-    write!(out, " {n}")
+    let mut line = [0u8; LINE_BYTES];
+    let count = formatting::put_behind(b' ', n, &mut line, 0);
+    text(out, &line[..count])
 }
 
 // A refusal by its number, with its place; the line may go on.
 pub fn refused<W: Write>(out: &mut W, r: Refusal) -> io::Result<()>
-    ensures { OnOk result (Appends (W.contents out.old) (W.contents out.new) (refusal_text r)) }
+    ensures written { OnOk result (Appends (W.contents out.old) (W.contents out.new) (refusal_text r)) }
+    ensures failed { OnErr result (AppendsPart (W.contents out.old) (W.contents out.new) (refusal_text r)) }
 {
     let mut line = [0u8; LINE_BYTES];
     let n = formatting::refusal_text(r, &mut line);
@@ -43,7 +62,8 @@ pub fn refused<W: Write>(out: &mut W, r: Refusal) -> io::Result<()>
 }
 
 pub fn refusal_line<W: Write>(out: &mut W, r: Refusal) -> io::Result<()>
-    ensures { OnOk result (Appends (W.contents out.old) (W.contents out.new) (refusal_line r)) }
+    ensures written { OnOk result (Appends (W.contents out.old) (W.contents out.new) (refusal_line r)) }
+    ensures failed { OnErr result (AppendsPart (W.contents out.old) (W.contents out.new) (refusal_line r)) }
 {
     let mut line = [0u8; LINE_BYTES];
     let n = formatting::refusal_line(r, &mut line);
@@ -52,7 +72,8 @@ pub fn refusal_line<W: Write>(out: &mut W, r: Refusal) -> io::Result<()>
 
 // The listing's first line.
 pub fn header_line<W: Write>(out: &mut W) -> io::Result<()>
-    ensures { OnOk result (Appends (W.contents out.old) (W.contents out.new) header) }
+    ensures written { OnOk result (Appends (W.contents out.old) (W.contents out.new) header) }
+    ensures failed { OnErr result (AppendsPart (W.contents out.old) (W.contents out.new) header) }
 {
     let mut line = [0u8; LINE_BYTES];
     let n = formatting::header_line(&mut line);
@@ -62,7 +83,8 @@ pub fn header_line<W: Write>(out: &mut W) -> io::Result<()>
 // The listing's line of a register that is reported for a sequence, or its refusal line.
 pub fn reported_line<W: Write>(out: &mut W, s: Sequence, r: Reported, a: &[u8]) -> io::Result<()>
     requires { length a.now ≡ a_bytes }
-    ensures { OnOk result (Appends (W.contents out.old) (W.contents out.new) (reported_line s r a.now)) }
+    ensures written { OnOk result (Appends (W.contents out.old) (W.contents out.new) (reported_line s r a.now)) }
+    ensures failed { OnErr result (AppendsPart (W.contents out.old) (W.contents out.new) (reported_line s r a.now)) }
 {
     let mut line = [0u8; LINE_BYTES];
     let n = formatting::reported_line(s, r, a, &mut line);
@@ -71,7 +93,8 @@ pub fn reported_line<W: Write>(out: &mut W, s: Sequence, r: Reported, a: &[u8]) 
 
 // Whether a register is the only one, in words; the line may go on.
 pub fn uniqueness<W: Write>(out: &mut W, w: Uniqueness) -> io::Result<()>
-    ensures { OnOk result (Appends (W.contents out.old) (W.contents out.new) (uniqueness_text w)) }
+    ensures written { OnOk result (Appends (W.contents out.old) (W.contents out.new) (uniqueness_text w)) }
+    ensures failed { OnErr result (AppendsPart (W.contents out.old) (W.contents out.new) (uniqueness_text w)) }
 {
     let mut line = [0u8; LINE_BYTES];
     let n = formatting::uniqueness_text(w, &mut line);
@@ -80,7 +103,8 @@ pub fn uniqueness<W: Write>(out: &mut W, w: Uniqueness) -> io::Result<()>
 
 // The line below that of a register that is reported, in a working.
 pub fn uniqueness_line<W: Write>(out: &mut W, r: Reported) -> io::Result<()>
-    ensures { OnOk result (Appends (W.contents out.old) (W.contents out.new) (uniqueness_line r)) }
+    ensures written { OnOk result (Appends (W.contents out.old) (W.contents out.new) (uniqueness_line r)) }
+    ensures failed { OnErr result (AppendsPart (W.contents out.old) (W.contents out.new) (uniqueness_line r)) }
 {
     let mut line = [0u8; LINE_BYTES];
     let n = formatting::uniqueness_line(r, &mut line);
@@ -89,7 +113,8 @@ pub fn uniqueness_line<W: Write>(out: &mut W, r: Reported) -> io::Result<()>
 
 // The listing's line of a query, or its refusal line.
 pub fn query_line<W: Write>(out: &mut W, query: &[u8]) -> io::Result<()>
-    ensures { OnOk result (Appends (W.contents out.old) (W.contents out.new) (query_line query.now)) }
+    ensures written { OnOk result (Appends (W.contents out.old) (W.contents out.new) (query_line query.now)) }
+    ensures failed { OnErr result (AppendsPart (W.contents out.old) (W.contents out.new) (query_line query.now)) }
 {
     let mut line = [0u8; LINE_BYTES];
     let n = formatting::query_line(query, &mut line);
@@ -98,7 +123,8 @@ pub fn query_line<W: Write>(out: &mut W, query: &[u8]) -> io::Result<()>
 
 // The line that answers a typed line.
 pub fn typed_line<W: Write>(out: &mut W, typed: &[u8]) -> io::Result<()>
-    ensures { OnOk result (Appends (W.contents out.old) (W.contents out.new) (typed_line typed.now)) }
+    ensures written { OnOk result (Appends (W.contents out.old) (W.contents out.new) (typed_line typed.now)) }
+    ensures failed { OnErr result (AppendsPart (W.contents out.old) (W.contents out.new) (typed_line typed.now)) }
 {
     let mut line = [0u8; LINE_BYTES];
     let n = formatting::typed_line(typed, &mut line);
@@ -107,7 +133,8 @@ pub fn typed_line<W: Write>(out: &mut W, typed: &[u8]) -> io::Result<()>
 
 // The census's first line.
 pub fn census_header<W: Write>(out: &mut W) -> io::Result<()>
-    ensures { OnOk result (Appends (W.contents out.old) (W.contents out.new) census_header) }
+    ensures written { OnOk result (Appends (W.contents out.old) (W.contents out.new) census_header) }
+    ensures failed { OnErr result (AppendsPart (W.contents out.old) (W.contents out.new) census_header) }
 {
     let mut line = [0u8; LINE_BYTES];
     let n = formatting::census_header(&mut line);
@@ -117,7 +144,8 @@ pub fn census_header<W: Write>(out: &mut W) -> io::Result<()>
 // The census's line that answers a typed line; says whether the census goes on.
 pub fn pair_line<W: Write>(out: &mut W, typed: &[u8]) -> io::Result<bool>
     ensures going { IfOk result (λ going. going ≡ is_pair (pair_in typed.now)) }
-    ensures bytes { OnOk result (Appends (W.contents out.old) (W.contents out.new) (pair_line typed.now)) }
+    ensures written { OnOk result (Appends (W.contents out.old) (W.contents out.new) (pair_line typed.now)) }
+    ensures failed { OnErr result (AppendsPart (W.contents out.old) (W.contents out.new) (pair_line typed.now)) }
 {
     let mut line = [0u8; LINE_BYTES];
     let a = formatting::pair_line(typed, &mut line);
@@ -128,7 +156,8 @@ pub fn pair_line<W: Write>(out: &mut W, typed: &[u8]) -> io::Result<bool>
 
 // The census's last line, where a typed line is not a modulus and a count.
 pub fn no_pair_line<W: Write>(out: &mut W) -> io::Result<()>
-    ensures { OnOk result (Appends (W.contents out.old) (W.contents out.new) no_pair_line) }
+    ensures written { OnOk result (Appends (W.contents out.old) (W.contents out.new) no_pair_line) }
+    ensures failed { OnErr result (AppendsPart (W.contents out.old) (W.contents out.new) no_pair_line) }
 {
     let mut line = [0u8; LINE_BYTES];
     let n = formatting::no_pair_line(&mut line);

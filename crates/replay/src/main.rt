@@ -10,7 +10,7 @@ use catalogue::LookedUp;
 use period::Measured;
 use sequence::{Outcome, QUERY_BYTES, Reported, Sequence};
 use std::io;
-use std::io::{BufWriter, Read, Write};
+use std::io::{Read, Write};
 use steps::{LOG, StepRecord};
 
 // Where an FNV-1a hash of 32 bits starts.
@@ -757,10 +757,9 @@ fn replay<R: Read, W: Write>(reader: &mut R, out: &mut W) -> io::Result<()> {
         }
         s = t.sequence;
     }
-    out.flush()
+    Ok(())
 }
 
 fn main(rt: HostRuntime) -> io::Result<()> {
-    let mut out = BufWriter::new(rt.alloc(), rt.stdout())?;
-    replay(&mut rt.stdin(), &mut out)
+    replay(&mut rt.stdin(), &mut rt.stdout())
 }

@@ -10,7 +10,7 @@ use input::{CHUNK, LINE_ROOM, Taken};
 use sequence::{A_BYTES, B_BYTES, Outcome, QUERY_BYTES, Refusal, Reported, Sequence};
 use std::env::{Env, FillError};
 use std::io;
-use std::io::{BufWriter, Read, Write};
+use std::io::{Read, Write};
 use steps::{LOG, StepRecord};
 
 fn row<W: Write>(out: &mut W, r: StepRecord) -> io::Result<()> {
@@ -77,7 +77,7 @@ fn queries<R: Read, W: Write>(reader: &mut R, out: &mut W) -> io::Result<()> {
             break;
         }
     }
-    out.flush()
+    Ok(())
 }
 
 fn answer<W: Write>(out: &mut W, line: &[u8]) -> io::Result<()> {
@@ -88,14 +88,12 @@ fn answer<W: Write>(out: &mut W, line: &[u8]) -> io::Result<()> {
     }
 }
 
-// What is printed goes out before each line is awaited, so that a person at a terminal has the answer to the last one.
 fn typed_lines<R: Read, W: Write>(reader: &mut R, out: &mut W) -> io::Result<()> {
     printing::header_line(out)?;
     let mut chunk = [0u8; CHUNK];
     let mut line = [0u8; LINE_ROOM];
     let mut source = input::start();
     for _ in 0..u64::MAX {
-        out.flush()?;
         let t = input::next_line(reader, source, &mut chunk, &mut line)?;
         source = t.source;
         match t.taken {
@@ -150,7 +148,7 @@ fn wanted<E: Env>(env: &E) -> Mode {
 
 fn main(rt: HostRuntime) -> io::Result<()> {
     let mut reader = rt.stdin();
-    let mut out = BufWriter::new(rt.alloc(), rt.stdout())?;
+    let mut out = rt.stdout();
     match wanted(&rt) {
         Mode::Queries => queries(&mut reader, &mut out),
         Mode::Lines => typed_lines(&mut reader, &mut out),
