@@ -114,6 +114,10 @@ equal_ne xs ys h = go (equal xs ys) refl
     go true e = absurd (h (equal_eq xs ys e))
     go false e = refl
 
+-- one place where two buffers differ
+pub equal_differs : (xs ys : List ℕ) (i : ℕ) → (at xs i ≡ at ys i → ⊥) → equal xs ys ≡ false
+equal_differs xs ys i h = equal_ne xs ys (λ e. h (ap (λ (zs : List ℕ). at zs i) e))
+
 -- a walk that met no two bytes that differ
 pub equal_all : (xs ys : List ℕ) → length xs ≡ length ys → ((j : ℕ) → j < length xs → at xs j ≡ at ys j) → equal xs ys ≡ true
 equal_all xs ys l h = rw (← ext_get_or zero xs ys l h) (equal_self xs)

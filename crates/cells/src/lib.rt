@@ -54,6 +54,7 @@ pub fn copy(from: &[u8], out: &mut [u8])
 }
 
 // Whether two slices hold the same bytes. It stops at the first that differs.
+#[tactic(auto, using(crate::proofs::Laws::equal_differs))]
 pub fn same(x: &[u8], y: &[u8]) -> bool
     ensures { result ≡ equal x.now y.now }
 {

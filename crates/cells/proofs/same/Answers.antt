@@ -6,7 +6,6 @@ use native.Mathlib.Omega.{arith}
 use lib.ListN.{length}
 use borrow.Author.Count.{below_more}
 use borrow.Author.Rules.{rules}
-use Rattle.lists.specs.Table.{at}
 use Rattle.cells.proofs.Laws.{equal_ne, equal_all}
 use Rattle.cells.proofs.same.Goals as goal
 
@@ -16,13 +15,10 @@ returns-then-x-y c = sym (equal_ne _ _ (λ e. c.if-x-y.true (ap length e)))
 pub loop-i-init : goal.loop-i-init
 loop-i-init c = (c.if-x-y.false, search rules, λ j h. absurd (not-suc-le-zero h))
 
-pub returns-then-x-i : goal.returns-then-x-i
-returns-then-x-i c = sym (equal_ne _ _ (λ e. omega (arith, ap (λ s. at s c.loop-i.i) e)))
-
 pub loop-i-preserved : goal.loop-i-preserved
 loop-i-preserved c =
     let inv = c.loop-i.invariant in
-    (inv.0, omega arith, below_more _ _ inv.2 c.if-x-i.false)
+    (inv.0, omega arith, below_more _ _ inv.2 (search rules))
 
 pub returns : goal.returns
 returns c =
