@@ -1,6 +1,6 @@
 // The claims that speak of several calls: specs/ has them, proofs/ their proofs. `drive` drives a list of pushes, columns, registers and
 // profiles through the calls themselves; its contract says what they all do together, and the claim about every such list. (A trace has no
-// code there: it is lent a slice of structs.) `walk_along` has the claim about the walk of a batch.
+// code there.) `walk_along` has the claim about the walk of a batch.
 #![tactic(auto)]
 
 ghost use Rattle.std.specs.Prelude.{◌≡◌, ◌*◌, ◌≤◌, length};

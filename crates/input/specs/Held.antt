@@ -50,8 +50,8 @@ pub record Told (s : Source) (chunk : List ℕ) (reply : Taken) (s' : Source) (c
   pub read : is_known s chunk ≡ false → marked ≡ true → Fed chunk' more (rest_of s' chunk')
   pub whole : (marked ≡ true) ⊎ (((s'.open ≡ false) × (rest_of s' chunk' ≡ [])) ⊎ (longest + 1 < length xs))
 
--- A read that fails came where no line was at hand. What was read of one has no line feed and begins with the chunk's piece, and the buffer
--- holds it; what the chunk holds then nothing tells.
+-- A read that fails came where no line was at hand. The buffer holds some bytes without a line feed, which begin with the chunk's piece;
+-- which bytes other reads gave, and what the chunk holds then, is not said here.
 pub record CutOff (s : Source) (chunk buffer : List ℕ) : Type 0 where
   pub unknown : is_known s chunk ≡ false
   pub xs : List ℕ
@@ -61,6 +61,6 @@ pub record CutOff (s : Source) (chunk buffer : List ℕ) : Type 0 where
   pub n : ℕ
   pub holds : Holds buffer n xs
 
--- what was read of a reader, of which `before` was to come and `after` is still to come, stands at the start of a buffer
+-- what was read of a reader, of which `before` was to come and `after` is still to come, stands at the start of a buffer that it does not fill
 abbrev pub StandsIn : Option (List ℕ) → Option (List ℕ) → List ℕ → Type 0
-StandsIn before after buffer = (n : ℕ) × (n ≤ length buffer) × Consumes before after (take n buffer)
+StandsIn before after buffer = (n : ℕ) × (n < length buffer) × Consumes before after (take n buffer)

@@ -1,9 +1,9 @@
-// Typed lines from standard input. A line ends at a line feed, with a carriage return before it or not; the last may lack both. What a read
+// Typed lines from a reader, and whole buffers. A line ends at a line feed, with a carriage return before it or not; the last may lack both. What a read
 // gives is used at once, so that a person at a terminal is answered after each line.
 #![tactic(auto)]
 
 ghost use Rattle.std.specs.Prelude.{◌≡◌, true, false, not, List, [], ◌∷◌, ◌++◌, ℕ, ◌≤◌, ◌<◌, eqb, leb, ltb, length, take, IfOk, OnErr};
-ghost use Rattle.std.specs.Io.KnownBytes.{Consumes, IsAtEnd};
+ghost use Rattle.std.specs.Io.KnownBytes.{Consumes, IsAtEnd, Keeps};
 ghost use Rattle.std.specs.Io.{ReadsAtMost};
 ghost use Rattle.lists.specs.Choice.{both};
 ghost use Rattle.input.specs.Marks.{longest, mark_in, length_of, rest_of, piece_of, left_of, is_marked, is_known};
@@ -147,7 +147,8 @@ fn taken_of(line: &[u8], held: usize, marked: bool) -> Taken
 
 // Reads once. Where that gives nothing, the input has ended.
 fn refill<R: Read>(reader: &mut R, chunk: &mut [u8]) -> io::Result<Source>
-    ensures { IfOk result (λ s. (s.from ≡ 0) × (s.end ≤ length chunk.new) × (s.open ≡ ltb 0 s.end)) }
+    ensures given { IfOk result (λ s. (s.from ≡ 0) × (s.end ≤ length chunk.new) × (s.open ≡ ltb 0 s.end)) }
+    ensures failed { OnErr result (Keeps (R.remaining reader.old) (R.remaining reader.new)) }
 {
     let n = reader.read(chunk)?;
     Ok(Source {
@@ -204,7 +205,7 @@ fn take_piece(source: Source, chunk: &[u8], line: &mut [u8], held: usize) -> Pie
 }
 
 // The next line, at the start of `line`, which has LINE_ROOM places. A read that fails is passed on, and nothing else is an error: a line that
-// is at hand never is one. `line` then holds what was read of the line.
+// is at hand never is one. `line` then holds a beginning of the line.
 // Rejected: a line feed in a line; a byte lost that the chunk has at entry, of this line or of a later one; a byte skipped behind a line feed
 // that a read gave; the carriage return of an end mark kept; a line cut short in silence, or the end told, by a source that is still open.
 pub fn next_line<R: Read>(

@@ -1,6 +1,6 @@
 // What programs write to standard output, said once for all of them: texts and numbers, refusals, the listing's lines, whether a register
-// is the only one, and the census's lines. Each goes to a writer, which gets it by one call; a write that fails is passed on. Where the
-// writer tells which bytes it holds, it holds these behind what it held.
+// is the only one, and the census's lines. Each is handed whole to a writer, which takes it by as many writes as it needs; a write that fails
+// is passed on. A writer that tells which bytes it holds then holds these behind what it held, or a beginning of them where a write failed.
 #![tactic(auto)]
 
 ghost use Rattle.std.specs.Prelude.{◌≡◌, [], ◌∷◌, length, IfOk, OnOk, OnErr};

@@ -50,7 +50,7 @@ abbrev pub sheet_filled : {A : Type 0} → Reported → List A → List A → Li
 sheet_filled (P.Length l w) records lent = records ++ drop (length records) lent
 sheet_filled (P.Refused r) records lent = lent
 
--- ---- the covered function under it: the log's words, one for each record, and their number
+-- ---- `work`, the function under it: the log's words, one for each record, and their number
 
 abbrev pub words_of : Sequence → List ℕ
 words_of s = words (sheet_of s.modulus s.terms s.count)

@@ -155,7 +155,7 @@ fn describe(
     }
 }
 
-// A record as one number of 61 bits, and back: a log has no slice of structs, so that all but the last step of a trace is in covered code.
+// A record as one number of 61 bits, and back: a log is an array of numbers.
 fn pack(x: StepRecord) -> u64
     requires { Narrow x }
     ensures { result ≡ packed x }

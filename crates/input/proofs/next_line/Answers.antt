@@ -30,7 +30,7 @@ returns-then-p-clause-chunk_after g c =
 pub loop-turns-preserved : goal.loop-turns-preserved
 loop-turns-preserved g c =
     let p = c.take_piece-p in
-    turn_again p.result.marked c.loop-turns.invariant p.ensures.by_index p.ensures.marked_value p.result.source p.ensures.open_value c.if-p.false (not-false _ c.if-not-source.false) c.in_ok-source.ensures (omega arith)
+    turn_again p.result.marked c.loop-turns.invariant p.ensures.by_index p.ensures.marked_value p.result.source p.ensures.open_value c.if-p.false (not-false _ c.if-not-source.false) c.in_ok-source.ensures.given (omega arith)
 
 pub returns-clause-told : goal.returns-clause-told
 returns-clause-told g c = spent_told _ _ _ c.loop-turns.invariant (omega arith) (omega arith)
