@@ -5,24 +5,24 @@ use mathlib.Core.List.{List}
 use Prim.Native.Nat.{ℕ, zero, suc, ◌+◌, ◌%◌}
 use native.Mathlib.Omega.{arith}
 use borrow.Author.Tests.{eq-eqb, ne_eqb}
+use Rattle.std.specs.Prelude.{Some, None, Ok, Err}
 use Rattle.lists.specs.Sum.{sum_to}
 use Rattle.lists.specs.Table.{at}
 use Rattle.lists.proofs.Sum.{sum_to_eq}
 use Rattle.sequence.specs.declared.Refusal.{Refusal}
 use Rattle.sequence.specs.Answers.{refusal}
-use Rattle.catalogue.specs.declared.LookedUp.{LookedUp}
-use Rattle.catalogue.specs.declared.LookedUp.TheVariants as S
 use Rattle.codes.specs.Codes.{code_of}
 use Rattle.codes.proofs.Laws.{code_refused}
 use Rattle.batch.specs.Rules.{query_at, queries_in, alone_of, reply_code, is_found, is_made, is_refused, count_kind}
 use Rattle.batch.specs.Inner.{kind_of, one_of_kind, of_kind, Answered}
+use Rattle.catalogue.specs.Rules.{LookedUp}
 
 -- ---- the kinds of replies
 
-kind_found : (i : ℕ) → kind_of (reply_code (S.Found i)) ≡ 1
-kind_found i = rw (ne_eqb (reply_code (S.Found i)) 0 (λ e. omega arith), eq-eqb (reply_code (S.Found i) % 256) 0 (omega arith))
+kind_found : (i : ℕ) → kind_of (reply_code (Ok (Some i))) ≡ 1
+kind_found i = rw (ne_eqb (reply_code (Ok (Some i))) 0 (λ e. omega arith), eq-eqb (reply_code (Ok (Some i)) % 256) 0 (omega arith))
 
-kind_refused : (r : Refusal) → kind_of (reply_code (S.Refused r)) ≡ 2
+kind_refused : (r : Refusal) → kind_of (reply_code (Err r)) ≡ 2
 kind_refused r =
     rw (
       ne_eqb (code_of (refusal r)) 0 (λ e. code_refused r (let z : code_of (refusal r) % 256 ≡ 0 = omega (arith, e) in z)),
@@ -30,19 +30,19 @@ kind_refused r =
     )
 
 one_found : (t : LookedUp) → one_of_kind 1 (reply_code t) ≡ is_found t
-one_found S.Made = refl
-one_found (S.Found i) = rw (kind_found i)
-one_found (S.Refused r) = rw (kind_refused r)
+one_found (Ok None) = refl
+one_found (Ok (Some i)) = rw (kind_found i)
+one_found (Err r) = rw (kind_refused r)
 
 one_made : (t : LookedUp) → one_of_kind 0 (reply_code t) ≡ is_made t
-one_made S.Made = refl
-one_made (S.Found i) = rw (kind_found i)
-one_made (S.Refused r) = rw (kind_refused r)
+one_made (Ok None) = refl
+one_made (Ok (Some i)) = rw (kind_found i)
+one_made (Err r) = rw (kind_refused r)
 
 one_refused : (t : LookedUp) → one_of_kind 2 (reply_code t) ≡ is_refused t
-one_refused S.Made = refl
-one_refused (S.Found i) = rw (kind_found i)
-one_refused (S.Refused r) = rw (kind_refused r)
+one_refused (Ok None) = refl
+one_refused (Ok (Some i)) = rw (kind_found i)
+one_refused (Err r) = rw (kind_refused r)
 
 -- ---- what the code counts
 
@@ -66,9 +66,9 @@ module _ (who : ℕ) (queries catalogue out replies : List ℕ) (a : Answered wh
 -- ---- each query is counted once
 
 once : (t : LookedUp) → is_found t + is_made t + is_refused t ≡ 1
-once S.Made = refl
-once (S.Found i) = refl
-once (S.Refused r) = refl
+once (Ok None) = refl
+once (Ok (Some i)) = refl
+once (Err r) = refl
 
 each_once : (n : ℕ) (f : ℕ → LookedUp) → sum_to n (λ i. is_found (f i)) + sum_to n (λ i. is_made (f i)) + sum_to n (λ i. is_refused (f i)) ≡ n
 unfolding sum_to

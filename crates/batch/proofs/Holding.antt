@@ -9,17 +9,14 @@ use native.Mathlib.Omega.{arith}
 use lib.ListN.{length}
 use borrow.Author.Count.{below_more}
 use borrow.Author.Tests.{lt-ltb, le-ltb, ne_eqb}
+use Rattle.std.specs.Prelude.{Some, None, Ok, Err}
 use Rattle.lists.specs.Choice.{pick, both}
 use Rattle.lists.proofs.Search.{lt_or_le, first_passes, first_before, first_none, none_first, is_first}
 use Rattle.sequence.specs.declared.Refusal.{Refusal}
 use Rattle.sequence.specs.declared.Refusal.TheVariants as R
-use Rattle.sequence.specs.declared.Outcome.{Outcome}
-use Rattle.sequence.specs.declared.Outcome.TheVariants as O
-use Rattle.sequence.specs.Answers.{refusal}
+use Rattle.sequence.specs.Answers.{refusal, Outcome}
 use Rattle.sequence.specs.Rules.{sequence_of, check_of}
-use Rattle.catalogue.specs.declared.LookedUp.{LookedUp}
-use Rattle.catalogue.specs.declared.LookedUp.TheVariants as S
-use Rattle.catalogue.specs.Rules.{record_bytes, record_at, records, is_of, first_match, passes, seen_by, served_in}
+use Rattle.catalogue.specs.Rules.{record_bytes, record_at, records, is_of, first_match, passes, seen_by, served_in, LookedUp}
 use Rattle.catalogue.proofs.Laws.{look_up_made, look_up_met}
 use Rattle.catalogue.proofs.Refusals.{look_up_query}
 use Rattle.catalogue.proofs.Body.{passes_same}
@@ -53,73 +50,73 @@ module _ (query catalogue : List ℕ) where
 -- ---- what is held after j records, told apart
 
 data Held (query catalogue : List ℕ) (j : ℕ) : Type 0 where
-  looking : check_of query ≡ O.Done → j ≤ first_match query catalogue j → held_of query catalogue j ≡ S.Made → Held query catalogue j
-  met : check_of query ≡ O.Done → first_match query catalogue j < j → held_of query catalogue j ≡ S.Found (first_match query catalogue j) → Held query catalogue j
-  refused : (r : Refusal) → check_of query ≡ O.Refused r → held_of query catalogue j ≡ S.Refused r → Held query catalogue j
+  looking : check_of query ≡ Ok tt → j ≤ first_match query catalogue j → held_of query catalogue j ≡ Ok None → Held query catalogue j
+  met : check_of query ≡ Ok tt → first_match query catalogue j < j → held_of query catalogue j ≡ Ok (Some (first_match query catalogue j)) → Held query catalogue j
+  refused : (r : Refusal) → check_of query ≡ Err r → held_of query catalogue j ≡ Err r → Held query catalogue j
 
-pub held_refused : (query catalogue : List ℕ) (j : ℕ) (r : Refusal) → check_of query ≡ O.Refused r → held_of query catalogue j ≡ S.Refused r
+pub held_refused : (query catalogue : List ℕ) (j : ℕ) (r : Refusal) → check_of query ≡ Err r → held_of query catalogue j ≡ Err r
 unfolding held_of
 held_refused query catalogue j r e = rw e
 
-held_found : (query catalogue : List ℕ) (j : ℕ) → check_of query ≡ O.Done → first_match query catalogue j < j → held_of query catalogue j ≡ S.Found (first_match query catalogue j)
+held_found : (query catalogue : List ℕ) (j : ℕ) → check_of query ≡ Ok tt → first_match query catalogue j < j → held_of query catalogue j ≡ Ok (Some (first_match query catalogue j))
 unfolding held_of
 held_found query catalogue j e h = rw (e, lt-ltb _ _ h)
 
-held_made : (query catalogue : List ℕ) (j : ℕ) → check_of query ≡ O.Done → j ≤ first_match query catalogue j → held_of query catalogue j ≡ S.Made
+held_made : (query catalogue : List ℕ) (j : ℕ) → check_of query ≡ Ok tt → j ≤ first_match query catalogue j → held_of query catalogue j ≡ Ok None
 unfolding held_of
 held_made query catalogue j e h = rw (e, le-ltb _ _ h)
 
 -- one that passed its checks is held as no refusal
-pub held_accepted : (query catalogue : List ℕ) (j : ℕ) {r : Refusal} → check_of query ≡ O.Done → held_of query catalogue j ≡ S.Refused r → ⊥
+pub held_accepted : (query catalogue : List ℕ) (j : ℕ) {r : Refusal} → check_of query ≡ Ok tt → held_of query catalogue j ≡ Err r → ⊥
 held_accepted query catalogue j {r} p e = go (lt_or_le (first_match query catalogue j) j)
   where
     go : (first_match query catalogue j < j) ⊎ (j ≤ first_match query catalogue j) → ⊥
-    go (inl h) = let q : S.Found (first_match query catalogue j) ≡ S.Refused r = sym (held_found query catalogue j p h) ∙ e in let y : ◌≡◌ {A = ℕ} 0 1 = cc in absurd (omega arith)
-    go (inr h) = let q : S.Made ≡ S.Refused r = sym (held_made query catalogue j p h) ∙ e in let y : ◌≡◌ {A = ℕ} 0 1 = cc in absurd (omega arith)
+    go (inl h) = let q : Ok (Some (first_match query catalogue j)) ≡ Err r = sym (held_found query catalogue j p h) ∙ e in let y : ◌≡◌ {A = ℕ} 0 1 = cc in absurd (omega arith)
+    go (inr h) = let q : (Ok None) ≡ Err r = sym (held_made query catalogue j p h) ∙ e in let y : ◌≡◌ {A = ℕ} 0 1 = cc in absurd (omega arith)
 
 held : (query catalogue : List ℕ) (j : ℕ) → Held query catalogue j
 held query catalogue j = go (check_of query) refl (lt_or_le (first_match query catalogue j) j)
   where
     go : (o : Outcome) → check_of query ≡ o → (first_match query catalogue j < j) ⊎ (j ≤ first_match query catalogue j) → Held query catalogue j
-    go O.Done e (inl h) = met e h (held_found query catalogue j e h)
-    go O.Done e (inr h) = looking e h (held_made query catalogue j e h)
-    go (O.Refused r) e h = refused r e (held_refused query catalogue j r e)
+    go (Ok tt) e (inl h) = met e h (held_found query catalogue j e h)
+    go (Ok tt) e (inr h) = looking e h (held_made query catalogue j e h)
+    go (Err r) e h = refused r e (held_refused query catalogue j r e)
 
 -- ---- it is the first match, or none
 
-module _ (query catalogue : List ℕ) (j : ℕ) (passed : check_of query ≡ O.Done) where
+module _ (query catalogue : List ℕ) (j : ℕ) (passed : check_of query ≡ Ok tt) where
   pub match_is :
-      (i : ℕ) → held_of query catalogue j ≡ S.Found i
+      (i : ℕ) → held_of query catalogue j ≡ Ok (Some i)
       → (i < j) × ((is_of query (record_at catalogue i) ≡ true) × ((k : ℕ) → k < i → is_of query (record_at catalogue k) ≡ false))
   unfolding first_match
   match_is i e = go (held query catalogue j)
     where
       go : Held query catalogue j → (i < j) × ((is_of query (record_at catalogue i) ≡ true) × ((k : ℕ) → k < i → is_of query (record_at catalogue k) ≡ false))
-      go (looking p h z) = let q : S.Made ≡ S.Found i = sym z ∙ e in let y : ◌≡◌ {A = ℕ} 0 1 = cc in absurd (omega arith)
+      go (looking p h z) = let q : (Ok None) ≡ Ok (Some i) = sym z ∙ e in let y : ◌≡◌ {A = ℕ} 0 1 = cc in absurd (omega arith)
       go (met p h z) =
-          let q : S.Found (first_match query catalogue j) ≡ S.Found i = sym z ∙ e in
+          let q : Ok (Some (first_match query catalogue j)) ≡ Ok (Some i) = sym z ∙ e in
           let y : first_match query catalogue j ≡ i = cc in
           subst (λ (x : ℕ). (x < j) × ((is_of query (record_at catalogue x) ≡ true) × ((k : ℕ) → k < x → is_of query (record_at catalogue k) ≡ false))) y
           (h, (first_passes j (λ i. is_of query (record_at catalogue i)) h, first_before j (λ i. is_of query (record_at catalogue i))))
-      go (refused r p z) = let q : S.Refused r ≡ S.Found i = sym z ∙ e in let y : ◌≡◌ {A = ℕ} 0 1 = cc in absurd (omega arith)
+      go (refused r p z) = let q : Err r ≡ Ok (Some i) = sym z ∙ e in let y : ◌≡◌ {A = ℕ} 0 1 = cc in absurd (omega arith)
 
   pub is_match :
-      (i : ℕ) → i < j → is_of query (record_at catalogue i) ≡ true → ((k : ℕ) → k < i → is_of query (record_at catalogue k) ≡ false) → held_of query catalogue j ≡ S.Found i
+      (i : ℕ) → i < j → is_of query (record_at catalogue i) ≡ true → ((k : ℕ) → k < i → is_of query (record_at catalogue k) ≡ false) → held_of query catalogue j ≡ Ok (Some i)
   unfolding first_match
   is_match i h e before =
       let y : first_match query catalogue j ≡ i = sym (is_first j (λ i. is_of query (record_at catalogue i)) i (omega arith) before (λ l. e)) in
-      held_found query catalogue j passed (omega (arith, h, y)) ∙ ap (λ (k : ℕ). S.Found k) y
+      held_found query catalogue j passed (omega (arith, h, y)) ∙ ap (λ (k : ℕ). Ok (Some k)) y
 
-  pub none_is : held_of query catalogue j ≡ S.Made → (k : ℕ) → k < j → is_of query (record_at catalogue k) ≡ false
+  pub none_is : held_of query catalogue j ≡ Ok None → (k : ℕ) → k < j → is_of query (record_at catalogue k) ≡ false
   unfolding first_match
   none_is e = go (held query catalogue j)
     where
       go : Held query catalogue j → (k : ℕ) → k < j → is_of query (record_at catalogue k) ≡ false
       go (looking p h z) = first_none j (λ i. is_of query (record_at catalogue i)) h
-      go (met p h z) = let q : S.Made ≡ S.Found (first_match query catalogue j) = sym e ∙ z in let y : ◌≡◌ {A = ℕ} 0 1 = cc in absurd (omega arith)
-      go (refused r p z) = let q : S.Made ≡ S.Refused r = sym e ∙ z in let y : ◌≡◌ {A = ℕ} 0 1 = cc in absurd (omega arith)
+      go (met p h z) = let q : (Ok None) ≡ Ok (Some (first_match query catalogue j)) = sym e ∙ z in let y : ◌≡◌ {A = ℕ} 0 1 = cc in absurd (omega arith)
+      go (refused r p z) = let q : (Ok None) ≡ Err r = sym e ∙ z in let y : ◌≡◌ {A = ℕ} 0 1 = cc in absurd (omega arith)
 
-  pub is_none : ((k : ℕ) → k < j → is_of query (record_at catalogue k) ≡ false) → held_of query catalogue j ≡ S.Made
+  pub is_none : ((k : ℕ) → k < j → is_of query (record_at catalogue k) ≡ false) → held_of query catalogue j ≡ Ok None
   unfolding first_match
   is_none h =
       let y : first_match query catalogue j ≡ j = none_first j (λ i. is_of query (record_at catalogue i)) h in
@@ -137,10 +134,10 @@ held_start who query catalogue = go (held query catalogue 0)
 
 -- ---- a reply that is 0 looks, and no other
 
-not_found : (i : ℕ) → reply_code (S.Found i) ≡ 0 → ⊥
+not_found : (i : ℕ) → reply_code (Ok (Some i)) ≡ 0 → ⊥
 not_found i h = omega arith
 
-not_refused : (r : Refusal) → reply_code (S.Refused r) ≡ 0 → ⊥
+not_refused : (r : Refusal) → reply_code (Err r) ≡ 0 → ⊥
 not_refused r h = code_refused r (let z : code_of (refusal r) % 256 ≡ 0 = omega (arith, h) in z)
 
 -- ---- one record more
@@ -170,7 +167,7 @@ module _ (who : ℕ) (query catalogue : List ℕ) (j : ℕ) where
   stays : (t : LookedUp) → takes query (record_at catalogue j) (reply_code t) ≡ false → Next t t
   stays t h = kept who query (record_at catalogue j) (held_part who t catalogue) j (reply_code t) h
 
-  taken : is_of query (record_at catalogue j) ≡ true → Next S.Made (S.Found j)
+  taken : is_of query (record_at catalogue j) ≡ true → Next (Ok None) (Ok (Some j))
   taken h = (rw h, rw h (omega arith))
 
   over : {t u t' u' : LookedUp} → t ≡ u → t' ≡ u' → Next u u' → Next t t'
@@ -183,22 +180,22 @@ module _ (who : ℕ) (query catalogue : List ℕ) (j : ℕ) where
   pub held_next : Next (held_of query catalogue j) (held_of query catalogue (suc j))
   held_next = go (held query catalogue j)
     where
-      look : check_of query ≡ O.Done → j ≤ first_match query catalogue j → held_of query catalogue j ≡ S.Made → (b : Bool) → is_of query (record_at catalogue j) ≡ b
+      look : check_of query ≡ Ok tt → j ≤ first_match query catalogue j → held_of query catalogue j ≡ Ok None → (b : Bool) → is_of query (record_at catalogue j) ≡ b
           → Next (held_of query catalogue j) (held_of query catalogue (suc j))
       look e h z true d =
           let here = next_here query catalogue j h d in
-          over z (held_found query catalogue (suc j) e (omega (arith, here)) ∙ ap (λ (k : ℕ). S.Found k) here) (taken d)
+          over z (held_found query catalogue (suc j) e (omega (arith, here)) ∙ ap (λ (k : ℕ). Ok (Some k)) here) (taken d)
       look e h z false d =
-          over z (held_made query catalogue (suc j) e (omega (arith, next_none query catalogue j h d))) (stays S.Made (not_its query (record_at catalogue j) 0 d))
+          over z (held_made query catalogue (suc j) e (omega (arith, next_none query catalogue j h d))) (stays (Ok None) (not_its query (record_at catalogue j) 0 d))
 
       go : Held query catalogue j → Next (held_of query catalogue j) (held_of query catalogue (suc j))
       go (looking e h z) = look e h z (is_of query (record_at catalogue j)) refl
       go (met e h z) =
           let same = next_same query catalogue j h in
-          over z (held_found query catalogue (suc j) e (omega (arith, same)) ∙ ap (λ (k : ℕ). S.Found k) same)
-          (stays (S.Found (first_match query catalogue j)) (not_looking query (record_at catalogue j) _ (not_found (first_match query catalogue j))))
+          over z (held_found query catalogue (suc j) e (omega (arith, same)) ∙ ap (λ (k : ℕ). Ok (Some k)) same)
+          (stays (Ok (Some (first_match query catalogue j))) (not_looking query (record_at catalogue j) _ (not_found (first_match query catalogue j))))
       go (refused r e z) =
-          over z (held_refused query catalogue (suc j) r e) (stays (S.Refused r) (not_looking query (record_at catalogue j) _ (not_refused r)))
+          over z (held_refused query catalogue (suc j) r e) (stays (Err r) (not_looking query (record_at catalogue j) _ (not_refused r)))
 
 -- ---- after the walk
 
@@ -223,10 +220,10 @@ module _ (who : ℕ) (query catalogue : List ℕ) (whole : length catalogue % re
     ap (λ (x : LookedUp). settled_code (check_of query) query (held_part who x catalogue) (reply_code x)) z ∙ n.1 ∙ ap reply_code (sym e),
   )
 
-  end_refused : (r : Refusal) → check_of query ≡ O.Refused r → Ended (S.Refused r) (S.Refused r)
+  end_refused : (r : Refusal) → check_of query ≡ Err r → Ended (Err r) (Err r)
   end_refused r e = (rw e, rw e)
 
-  end_made : check_of query ≡ O.Done → Ended S.Made S.Made
+  end_made : check_of query ≡ Ok tt → Ended (Ok None) (Ok None)
   end_made e = (rw e, rw e)
 
   -- a record is tested as who asks sees it: the number has no part in the test
@@ -236,13 +233,13 @@ module _ (who : ℕ) (query catalogue : List ℕ) (whole : length catalogue % re
       (body_seen who (record_at catalogue i) (omega (arith, record_size catalogue i h)))
 
   end_met :
-      check_of query ≡ O.Done → (i : ℕ) → i < records catalogue → (g : Bool) → passes (sequence_of query) (record_at catalogue i) ≡ g
-      → Ended (S.Found i) (pick g (S.Found i) (S.Refused R.Record))
+      check_of query ≡ Ok tt → (i : ℕ) → i < records catalogue → (g : Bool) → passes (sequence_of query) (record_at catalogue i) ≡ g
+      → Ended (Ok (Some i)) (pick g (Ok (Some i)) (Err R.Record))
   end_met e i l g h = go g (seen_passes i l ∙ h)
     where
-      go : (g : Bool) → passes (sequence_of query) (seen_by who (record_at catalogue i)) ≡ g → Ended (S.Found i) (pick g (S.Found i) (S.Refused R.Record))
-      go true k = (rw (e, ne_eqb (reply_code (S.Found i)) 0 (not_found i), k), rw (e, ne_eqb (reply_code (S.Found i)) 0 (not_found i), k))
-      go false k = (rw (e, ne_eqb (reply_code (S.Found i)) 0 (not_found i), k), rw (e, ne_eqb (reply_code (S.Found i)) 0 (not_found i), k))
+      go : (g : Bool) → passes (sequence_of query) (seen_by who (record_at catalogue i)) ≡ g → Ended (Ok (Some i)) (pick g (Ok (Some i)) (Err R.Record))
+      go true k = (rw (e, ne_eqb (reply_code (Ok (Some i))) 0 (not_found i), k), rw (e, ne_eqb (reply_code (Ok (Some i))) 0 (not_found i), k))
+      go false k = (rw (e, ne_eqb (reply_code (Ok (Some i))) 0 (not_found i), k), rw (e, ne_eqb (reply_code (Ok (Some i))) 0 (not_found i), k))
 
   pub held_end :
       (settled_part (check_of query) query (held_part who (held_of query catalogue (records catalogue)) catalogue) (reply_code (held_of query catalogue (records catalogue)))

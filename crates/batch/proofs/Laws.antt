@@ -6,18 +6,15 @@ use Prim.Native.Nat.{ℕ, ◌*◌, ◌<◌}
 use native.Mathlib.Omega.{arith}
 use lib.ListN.{length, drop, replicate, length-drop}
 use lib.Seq.{length-take-le}
+use Rattle.std.specs.Prelude.{Some, None, Ok, Err}
 use Rattle.lists.specs.Sum.{sum_to}
 use Rattle.lists.specs.Table.{at, tabulate}
 use Rattle.lists.proofs.Sum.{sum_to_eq}
 use Rattle.lists.proofs.Table.{at_tabulate, length_tabulate, tabulate_eq}
 use Rattle.sequence.specs.declared.Refusal.{Refusal}
-use Rattle.sequence.specs.declared.Outcome.{Outcome}
-use Rattle.sequence.specs.declared.Outcome.TheVariants as O
 use Rattle.sequence.specs.Limits.{query_bytes}
-use Rattle.sequence.specs.Answers.{granted}
-use Rattle.catalogue.specs.declared.LookedUp.{LookedUp}
-use Rattle.catalogue.specs.declared.LookedUp.TheVariants as S
-use Rattle.catalogue.specs.Rules.{record_bytes, record_at, records, body, look_up_of, look_up_answer, editor, served_in}
+use Rattle.sequence.specs.Answers.{granted, Outcome}
+use Rattle.catalogue.specs.Rules.{record_bytes, record_at, records, body, look_up_of, look_up_answer, editor, served_in, LookedUp}
 use Rattle.catalogue.proofs.Laws.{look_up_lent}
 use Rattle.catalogue.proofs.Places.{served_size}
 use Rattle.catalogue.proofs.Answers.{look_up_told}
@@ -37,8 +34,8 @@ outcome_is queries catalogue out replies = ap (λ (b : Batch). b.outcome) (reply
   where
     go : (o : Outcome)
         → (reply_by o (count_kind is_found queries catalogue) (count_kind is_made queries catalogue) (count_kind is_refused queries catalogue)).outcome ≡ o
-    go O.Done = refl
-    go (O.Refused r) = refl
+    go (Ok tt) = refl
+    go (Err r) = refl
 
 -- ---- each query
 
@@ -54,19 +51,19 @@ alone_code query catalogue lent h =
 
 -- its part, where looking up is not refused and where it is
 pub part_served :
-    (who : ℕ) (query catalogue lent : List ℕ) → length lent ≡ record_bytes → ((r : Refusal) → look_up_of query catalogue lent ≡ S.Refused r → ⊥)
+    (who : ℕ) (query catalogue lent : List ℕ) → length lent ≡ record_bytes → ((r : Refusal) → look_up_of query catalogue lent ≡ Err r → ⊥)
     → part_of who query catalogue ≡ served_in who (look_up_of query catalogue lent) query catalogue lent
 unfolding part_of
 part_served who query catalogue lent h not =
     ap (λ (t : LookedUp). served_in who t query catalogue zero_record) (sym (alone_lent query catalogue lent h)) ∙ go (look_up_of query catalogue lent) refl
   where
     go : (t : LookedUp) → look_up_of query catalogue lent ≡ t → served_in who t query catalogue zero_record ≡ served_in who t query catalogue lent
-    go (S.Found i) e = refl
-    go S.Made e = refl
-    go (S.Refused r) e = absurd (not r e)
+    go (Ok (Some i)) e = refl
+    go (Ok None) e = refl
+    go (Err r) e = absurd (not r e)
 
 pub part_zeros :
-    (who : ℕ) (query catalogue lent : List ℕ) → length lent ≡ record_bytes → (r : Refusal) → look_up_of query catalogue lent ≡ S.Refused r
+    (who : ℕ) (query catalogue lent : List ℕ) → length lent ≡ record_bytes → (r : Refusal) → look_up_of query catalogue lent ≡ Err r
     → part_of who query catalogue ≡ replicate record_bytes 0
 unfolding part_of zero_record
 part_zeros who query catalogue lent h r e = ap (λ (t : LookedUp). served_in who t query catalogue zero_record) (sym (alone_lent query catalogue lent h) ∙ e)
@@ -80,7 +77,7 @@ part_size who queries catalogue i h = served_size who (query_at queries i) catal
 
 -- ---- the buffers where the whole call is not refused
 
-module _ (queries catalogue out replies : List ℕ) (done : (look_up_batch_of queries catalogue out replies).outcome ≡ O.Done) where
+module _ (queries catalogue out replies : List ℕ) (done : (look_up_batch_of queries catalogue out replies).outcome ≡ Ok tt) where
   parts_are : (who : ℕ) → parts_in who (look_up_batch_of queries catalogue out replies) queries catalogue out ≡ end_to_end (queries_in queries) (λ i. part_of who (query_at queries i) catalogue)
   parts_are who = ap (λ (o : Outcome). batched_in o (end_to_end (queries_in queries) (λ i. part_of who (query_at queries i) catalogue)) out) done
 
@@ -112,9 +109,9 @@ module _ (queries catalogue out replies : List ℕ) (done : (look_up_batch_of qu
         found = count_kind is_found queries catalogue;
         made = count_kind is_made queries catalogue;
         refused = count_kind is_refused queries catalogue;
-        outcome = O.Done;
+        outcome = Ok tt;
       }
-  counts_are = reply_by_lem queries catalogue out replies O.Done (sym (outcome_is queries catalogue out replies) ∙ done)
+  counts_are = reply_by_lem queries catalogue out replies (Ok tt) (sym (outcome_is queries catalogue out replies) ∙ done)
 
   pub counts_code :
       counts_code_of (look_up_batch_answer queries catalogue out replies)

@@ -9,15 +9,14 @@ use native.Mathlib.Omega.{arith}
 use lib.Dec.{ltb, eqb}
 use lib.ListN.{length, take, drop, replicate, length-replicate}
 use borrow.Author.Tests.{eqb-true, ltb-false}
+use Rattle.std.specs.Prelude.{Ok, Err}
 use Rattle.lists.specs.Choice.{pick}
 use Rattle.lists.specs.Table.{at, tabulate}
 use Rattle.lists.proofs.Search.{both_left, both_right}
 use Rattle.lists.proofs.Table.{at_tabulate, is_tabulate, length_tabulate}
 use Rattle.sequence.specs.declared.Refusal.{Refusal}
-use Rattle.sequence.specs.declared.Outcome.{Outcome}
-use Rattle.sequence.specs.declared.Outcome.TheVariants as O
 use Rattle.sequence.specs.Limits.{query_bytes}
-use Rattle.sequence.specs.Answers.{granted, refused, refusal, outcome_answer, first_of}
+use Rattle.sequence.specs.Answers.{granted, refused, refusal, outcome_answer, first_of, Outcome}
 use Rattle.sequence.specs.Rules.{check_of}
 use Rattle.catalogue.specs.Rules.{record_bytes, record_at, records}
 use Rattle.catalogue.proofs.Laws.{cut_record}
@@ -55,14 +54,14 @@ pub record Right (q c o r : ℕ) : Type 0 where
   pub few : q / query_bytes ≤ max_queries
   pub whole : c % record_bytes ≡ 0
 
-pub done_right : (q c o r : ℕ) → refused_whole q c o r ≡ O.Done → Right q c o r
+pub done_right : (q c o r : ℕ) → refused_whole q c o r ≡ Ok tt → Right q c o r
 unfolding refused_whole
 done_right q c o r h = go (lengths_fit q o r) (ltb max_queries (q / query_bytes)) (eqb (c % record_bytes) 0) refl refl refl h
   where
-    no : {s : Refusal} → O.Refused s ≡ O.Done → Right q c o r
+    no : {s : Refusal} → Err s ≡ Ok tt → Right q c o r
     no e = let z : ◌≡◌ {A = ℕ} 0 1 = cc in absurd (omega arith)
 
-    go : (f m w : Bool) → lengths_fit q o r ≡ f → ltb max_queries (q / query_bytes) ≡ m → eqb (c % record_bytes) 0 ≡ w → refused_by (not f) m (not w) ≡ O.Done → Right q c o r
+    go : (f m w : Bool) → lengths_fit q o r ≡ f → ltb max_queries (q / query_bytes) ≡ m → eqb (c % record_bytes) 0 ≡ w → refused_by (not f) m (not w) ≡ Ok tt → Right q c o r
     go true false true ef em ew k = record { sized = ef; few = ltb-false _ _ em; whole = eqb-true _ _ ew }
     go true false false ef em ew k = no k
     go true true w ef em ew k = no k
@@ -167,16 +166,16 @@ reply_by_lem queries catalogue out replies o e =
 module _ (queries catalogue out replies : List ℕ) (who : ℕ) where
   -- each way out, with the whole promise
   pub refused_told :
-      {o : Outcome} {r : Refusal} → o ≡ refused_whole (length queries) (length catalogue) (length out) (length replies) → o ≡ O.Refused r
-      → Told queries catalogue out replies who (record { found = 0; made = 0; refused = 0; outcome = O.Refused r }) out replies
+      {o : Outcome} {r : Refusal} → o ≡ refused_whole (length queries) (length catalogue) (length out) (length replies) → o ≡ Err r
+      → Told queries catalogue out replies who (record { found = 0; made = 0; refused = 0; outcome = Err r }) out replies
   refused_told {o} {r} e k =
-      let same = sym (reply_by_lem queries catalogue out replies (O.Refused r) (sym e ∙ k)) in
+      let same = sym (reply_by_lem queries catalogue out replies (Err r) (sym e ∙ k)) in
       record { value = same; out_after = refl; replies_after = refl; result_value = ap batch_answer same ∙ answer_told queries catalogue out replies }
 
   pub done_told :
-      {o : Outcome} {f m x : ℕ} {out' replies' : List ℕ} → o ≡ refused_whole (length queries) (length catalogue) (length out) (length replies) → o ≡ O.Done
+      {o : Outcome} {f m x : ℕ} {out' replies' : List ℕ} → o ≡ refused_whole (length queries) (length catalogue) (length out) (length replies) → o ≡ Ok tt
       → Answered who queries catalogue out' replies' → f ≡ of_kind 1 replies' → m ≡ of_kind 0 replies' → x ≡ of_kind 2 replies'
-      → Told queries catalogue out replies who (record { found = f; made = m; refused = x; outcome = O.Done }) out' replies'
+      → Told queries catalogue out replies who (record { found = f; made = m; refused = x; outcome = Ok tt }) out' replies'
   done_told {o} {f} {m} {x} {out'} {replies'} e k a ef em ex =
       record {
         value = same;
@@ -185,17 +184,17 @@ module _ (queries catalogue out replies : List ℕ) (who : ℕ) where
         result_value = ap batch_answer same ∙ answer_told queries catalogue out replies;
       }
     where
-      counts : ◌≡◌ {A = Batch} (record { found = f; made = m; refused = x; outcome = O.Done })
-          (reply_by O.Done (count_kind is_found queries catalogue) (count_kind is_made queries catalogue) (count_kind is_refused queries catalogue))
+      counts : ◌≡◌ {A = Batch} (record { found = f; made = m; refused = x; outcome = Ok tt })
+          (reply_by (Ok tt) (count_kind is_found queries catalogue) (count_kind is_made queries catalogue) (count_kind is_refused queries catalogue))
       counts = λ i. record {
         found = (ef ∙ found_counted who queries catalogue out' replies' a) i;
         made = (em ∙ made_counted who queries catalogue out' replies' a) i;
         refused = (ex ∙ refused_counted who queries catalogue out' replies' a) i;
-        outcome = O.Done;
+        outcome = Ok tt;
       }
 
-      same : ◌≡◌ {A = Batch} (record { found = f; made = m; refused = x; outcome = O.Done }) (look_up_batch_of queries catalogue out replies)
-      same = counts ∙ sym (reply_by_lem queries catalogue out replies O.Done (sym e ∙ k))
+      same : ◌≡◌ {A = Batch} (record { found = f; made = m; refused = x; outcome = Ok tt }) (look_up_batch_of queries catalogue out replies)
+      same = counts ∙ sym (reply_by_lem queries catalogue out replies (Ok tt) (sym e ∙ k))
 
 -- ---- the counts
 
@@ -205,21 +204,21 @@ pub counts_small :
 counts_small queries catalogue out replies {b} same = go (refused_whole (length queries) (length catalogue) (length out) (length replies)) refl
   where
     go : (o : Outcome) → refused_whole (length queries) (length catalogue) (length out) (length replies) ≡ o → b.found + b.made + b.refused ≤ max_queries
-    go O.Done e =
-        subst (λ (b : Batch). b.found + b.made + b.refused ≤ max_queries) (sym (same ∙ reply_by_lem queries catalogue out replies O.Done e))
+    go (Ok tt) e =
+        subst (λ (b : Batch). b.found + b.made + b.refused ≤ max_queries) (sym (same ∙ reply_by_lem queries catalogue out replies (Ok tt) e))
         (omega (arith, all_counted queries catalogue, (done_right (length queries) (length catalogue) (length out) (length replies) e).few))
-    go (O.Refused r) e =
-        subst (λ (b : Batch). b.found + b.made + b.refused ≤ max_queries) (sym (same ∙ reply_by_lem queries catalogue out replies (O.Refused r) e)) (omega arith)
+    go (Err r) e =
+        subst (λ (b : Batch). b.found + b.made + b.refused ≤ max_queries) (sym (same ∙ reply_by_lem queries catalogue out replies (Err r) e)) (omega arith)
 
 -- ---- the refusals of the whole call
 
 -- none of them carries a place
-refused_plain : (queries catalogue out replies : List ℕ) {r : Refusal} → (look_up_batch_of queries catalogue out replies).outcome ≡ O.Refused r → (refusal r).values ≡ []
+refused_plain : (queries catalogue out replies : List ℕ) {r : Refusal} → (look_up_batch_of queries catalogue out replies).outcome ≡ Err r → (refusal r).values ≡ []
 unfolding look_up_batch_of refused_whole
 refused_plain queries catalogue out replies {r} h =
     go (not (lengths_fit (length queries) (length out) (length replies))) (ltb max_queries (queries_in queries)) (not (eqb (length catalogue % record_bytes) 0)) h
   where
-    go : (f m u : Bool) → (reply_by (refused_by f m u) (count_kind is_found queries catalogue) (count_kind is_made queries catalogue) (count_kind is_refused queries catalogue)).outcome ≡ O.Refused r
+    go : (f m u : Bool) → (reply_by (refused_by f m u) (count_kind is_found queries catalogue) (count_kind is_made queries catalogue) (count_kind is_refused queries catalogue)).outcome ≡ Err r
         → (refusal r).values ≡ []
     go true m u e = sym (ap (λ (o : Outcome). (outcome_answer o).values) e)
     go false true u e = sym (ap (λ (o : Outcome). (outcome_answer o).values) e)
@@ -230,12 +229,12 @@ refused_plain queries catalogue out replies {r} h =
 
 module _ (queries catalogue out replies : List ℕ) {b : Batch} (same : b ≡ look_up_batch_of queries catalogue out replies) where
   pub done_code :
-      {n : ℕ} → n ≡ counts_code_of (granted (b.found ∷ b.made ∷ b.refused ∷ [])) → b.outcome ≡ O.Done → batch_answer b ≡ look_up_batch_answer queries catalogue out replies
+      {n : ℕ} → n ≡ counts_code_of (granted (b.found ∷ b.made ∷ b.refused ∷ [])) → b.outcome ≡ Ok tt → batch_answer b ≡ look_up_batch_answer queries catalogue out replies
       → n ≡ counts_code_of (look_up_batch_answer queries catalogue out replies)
   done_code e k x = e ∙ ap (λ (o : Outcome). counts_code_of (answer_by o b.found b.made b.refused)) (sym k) ∙ ap counts_code_of x
 
   pub refused_code :
-      {n : ℕ} (r : Refusal) → n ≡ code_of (refusal r) → b.outcome ≡ O.Refused r → batch_answer b ≡ look_up_batch_answer queries catalogue out replies
+      {n : ℕ} (r : Refusal) → n ≡ code_of (refusal r) → b.outcome ≡ Err r → batch_answer b ≡ look_up_batch_answer queries catalogue out replies
       → n ≡ counts_code_of (look_up_batch_answer queries catalogue out replies)
   refused_code r e k x =
       e ∙ counts_refused r (refused_plain queries catalogue out replies (ap (λ (z : Batch). z.outcome) (sym same) ∙ k))

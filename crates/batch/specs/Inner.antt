@@ -1,14 +1,12 @@
 -- What the functions inside do at each record and after the last, for their contracts. No claim speaks of it.
 -- Assumes nothing.
-use Rattle.std.specs.Prelude.{◌≡◌, Bool, List, ℕ, ◌+◌, ◌*◌, ◌%◌, ◌<◌, eqb, length}
+use Rattle.std.specs.Prelude.{◌≡◌, Bool, List, ℕ, ◌+◌, ◌*◌, ◌%◌, ◌<◌, eqb, length, Ok, Err}
 use Rattle.lists.specs.Choice.{pick, both}
 use Rattle.lists.specs.Sum.{sum_to}
 use Rattle.lists.specs.Table.{at}
 use Rattle.sequence.specs.declared.Sequence.{Sequence}
 use Rattle.sequence.specs.declared.Refusal.TheVariants as R
-use Rattle.sequence.specs.declared.Outcome.{Outcome}
-use Rattle.sequence.specs.declared.Outcome.TheVariants as O
-use Rattle.sequence.specs.Answers.{outcome_answer, refusal}
+use Rattle.sequence.specs.Answers.{outcome_answer, refusal, Outcome}
 use Rattle.sequence.specs.Rules.{sequence_of, check_of}
 use Rattle.catalogue.specs.Word.{word_of}
 use Rattle.catalogue.specs.Rules.{record_of, record_at, is_of, passes, seen_by}
@@ -70,12 +68,12 @@ tested_code s part reply = pick (eqb reply 0) 0 (pick (passes s part) reply (cod
 
 -- one that did not keeps its zeros and its refusal
 abbrev pub settled_part : (checks : Outcome) (query part : List ℕ) (reply : ℕ) → List ℕ
-settled_part O.Done query part reply = tested_part query (sequence_of query) part reply
-settled_part (O.Refused r) query part reply = part
+settled_part (Ok tt) query part reply = tested_part query (sequence_of query) part reply
+settled_part (Err r) query part reply = part
 
 abbrev pub settled_code : (checks : Outcome) (query part : List ℕ) (reply : ℕ) → ℕ
-settled_code O.Done query part reply = tested_code (sequence_of query) part reply
-settled_code (O.Refused r) query part reply = reply
+settled_code (Ok tt) query part reply = tested_code (sequence_of query) part reply
+settled_code (Err r) query part reply = reply
 
 abbrev pub Settled : (queries out replies out' replies' : List ℕ) → Type 0
 Settled queries out replies =

@@ -1,17 +1,13 @@
 -- A batch (the paper's bundle): queries that are looked up in one walk along a catalogue. What the call replies, and every lent buffer at exit.
 -- Assumes nothing.
-use Rattle.std.specs.Prelude.{Bool, not, List, [], ◌∷◌, ◌++◌, ℕ, zero, suc, ◌*◌, ◌/◌, ◌%◌, ltb, eqb, length, take, drop, replicate}
+use Rattle.std.specs.Prelude.{Bool, not, List, [], ◌∷◌, ◌++◌, ℕ, zero, suc, ◌*◌, ◌/◌, ◌%◌, ltb, eqb, length, take, drop, replicate, Some, None, Ok, Err}
 use Rattle.lists.specs.Choice.{pick, both}
 use Rattle.lists.specs.Sum.{sum_to}
 use Rattle.lists.specs.Table.{tabulate}
 use Rattle.sequence.specs.declared.Refusal.TheVariants as R
-use Rattle.sequence.specs.declared.Outcome.{Outcome}
-use Rattle.sequence.specs.declared.Outcome.TheVariants as O
 use Rattle.sequence.specs.Limits.{query_bytes}
-use Rattle.sequence.specs.Answers.{Answer, granted, refused, refusal, first_of}
-use Rattle.catalogue.specs.declared.LookedUp.{LookedUp}
-use Rattle.catalogue.specs.declared.LookedUp.TheVariants as S
-use Rattle.catalogue.specs.Rules.{record_bytes, looked_up_answer, look_up_of, served_in}
+use Rattle.sequence.specs.Answers.{Answer, granted, refused, refusal, first_of, Outcome}
+use Rattle.catalogue.specs.Rules.{record_bytes, looked_up_answer, look_up_of, served_in, LookedUp}
 use Rattle.codes.specs.Codes.{code_of}
 use Rattle.batch.specs.declared.Batch.{Batch}
 
@@ -46,19 +42,19 @@ reply_code t = code_of (looked_up_answer t)
 -- ---- how many were found, made and refused
 
 abbrev pub is_found : LookedUp → ℕ
-is_found (S.Found i) = 1
-is_found S.Made = 0
-is_found (S.Refused r) = 0
+is_found (Ok (Some i)) = 1
+is_found (Ok None) = 0
+is_found (Err r) = 0
 
 abbrev pub is_made : LookedUp → ℕ
-is_made (S.Found i) = 0
-is_made S.Made = 1
-is_made (S.Refused r) = 0
+is_made (Ok (Some i)) = 0
+is_made (Ok None) = 1
+is_made (Err r) = 0
 
 abbrev pub is_refused : LookedUp → ℕ
-is_refused (S.Found i) = 0
-is_refused S.Made = 0
-is_refused (S.Refused r) = 1
+is_refused (Ok (Some i)) = 0
+is_refused (Ok None) = 0
+is_refused (Err r) = 1
 
 -- how many queries get a reply of a kind
 unfoldable pub count_kind : (LookedUp → ℕ) → List ℕ → List ℕ → ℕ
@@ -73,7 +69,7 @@ lengths_fit queries out replies =
 
 -- 5, 34, 23, in this order, by what is wrong
 abbrev pub refused_by : (misfit many uneven : Bool) → Outcome
-refused_by misfit many uneven = pick misfit (O.Refused R.Buffer) (pick many (O.Refused R.Batch) (pick uneven (O.Refused R.Catalogue) O.Done))
+refused_by misfit many uneven = pick misfit (Err R.Buffer) (pick many (Err R.Batch) (pick uneven (Err R.Catalogue) (Ok tt)))
 
 unfoldable pub refused_whole : (queries catalogue out replies : ℕ) → Outcome
 refused_whole queries catalogue out replies =
@@ -81,8 +77,8 @@ refused_whole queries catalogue out replies =
 
 -- the counts beside the outcome; with a refusal they are 0
 abbrev pub reply_by : Outcome → (found made refused : ℕ) → Batch
-reply_by O.Done found made refused = record { found = found; made = made; refused = refused; outcome = O.Done }
-reply_by (O.Refused r) found made refused = record { found = 0; made = 0; refused = 0; outcome = O.Refused r }
+reply_by (Ok tt) found made refused = record { found = found; made = made; refused = refused; outcome = Ok tt }
+reply_by (Err r) found made refused = record { found = 0; made = 0; refused = 0; outcome = Err r }
 
 unfoldable pub look_up_batch_of : (queries catalogue out replies : List ℕ) → Batch
 look_up_batch_of queries catalogue out replies =
@@ -92,8 +88,8 @@ look_up_batch_of queries catalogue out replies =
 
 -- the reply by number: the three counts as values
 abbrev pub answer_by : Outcome → (found made refused : ℕ) → Answer
-answer_by O.Done found made refused = granted (found ∷ made ∷ refused ∷ [])
-answer_by (O.Refused r) found made refused = refusal r
+answer_by (Ok tt) found made refused = granted (found ∷ made ∷ refused ∷ [])
+answer_by (Err r) found made refused = refusal r
 
 abbrev pub batch_answer : Batch → Answer
 batch_answer b = answer_by b.outcome b.found b.made b.refused
@@ -114,8 +110,8 @@ end_to_end (suc n) f = f zero ++ end_to_end n (λ i. f (suc i))
 
 -- the records at exit, and the replies: each is what its query gets alone; where the whole call is refused, as lent
 abbrev pub batched_in : Outcome → (now lent : List ℕ) → List ℕ
-batched_in O.Done now lent = now
-batched_in (O.Refused r) now lent = lent
+batched_in (Ok tt) now lent = now
+batched_in (Err r) now lent = lent
 
 abbrev pub parts_in : ℕ → Batch → (queries catalogue out : List ℕ) → List ℕ
 parts_in who b queries catalogue out = batched_in b.outcome (end_to_end (queries_in queries) (λ i. part_of who (query_at queries i) catalogue)) out

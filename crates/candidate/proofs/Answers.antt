@@ -6,20 +6,17 @@ use mathlib.Core.List.{List, [], ◌++◌}
 use Prim.Native.Nat.{ℕ, ◌/◌, ◌%◌}
 use lib.Dec.{ltb, eqb}
 use lib.ListN.{length}
+use Rattle.std.specs.Prelude.{Ok, Err}
 use Rattle.lists.specs.Choice.{pick}
 use Rattle.lists.specs.Table.{at}
 use Rattle.recurrence.specs.Running.{first_difference}
 use Rattle.sequence.specs.declared.Sequence.{Sequence}
 use Rattle.sequence.specs.declared.Refusal.TheVariants as R
-use Rattle.sequence.specs.declared.Outcome.{Outcome}
-use Rattle.sequence.specs.declared.Outcome.TheVariants.{Done, Refused}
 use Rattle.sequence.specs.Limits.{max_terms, a_bytes, b_bytes}
-use Rattle.sequence.specs.Answers.{Answer, granted, refused, outcome_answer, first_of}
+use Rattle.sequence.specs.Answers.{Answer, granted, refused, outcome_answer, first_of, Outcome, and_then}
 use Rattle.sequence.specs.Rules.{outside, sequence_of, check_of, query_refusals}
 use Rattle.sequence.proofs.Answers.{or_refused, query_told}
-use Rattle.candidate.specs.declared.Verdict.{Verdict}
-use Rattle.candidate.specs.declared.Verdict.TheVariants as W
-use Rattle.candidate.specs.Rules.{a_cells, b_cells, fits, flaw_by, flaw_of, candidate_refusals, verdict_of, verdict_answer, judge_of, or_else, verify_of, verify_answer, generate_of, generate_answer}
+use Rattle.candidate.specs.Rules.{a_cells, b_cells, fits, flaw_by, flaw_of, candidate_refusals, verdict_of, verdict_answer, judge_of, verify_of, verify_answer, generate_of, generate_answer, Verdict}
 
 -- the refusals of a candidate, by their tests
 pub candidate_told :
@@ -54,17 +51,17 @@ verify_told query a b l e =
     rest : List (Bool × Answer)
     rest = candidate_refusals s.modulus l (a_cells a) (b_cells b)
 
-    judged : (o : Outcome) → verdict_answer (or_else o verdict) ≡ or_refused o v
-    judged Done = refl
-    judged (Refused r) = refl
+    judged : (o : Outcome) → verdict_answer (and_then o verdict) ≡ or_refused o v
+    judged (Ok tt) = refl
+    judged (Err r) = refl
 
-    after : (o : Outcome) → verdict_answer (or_else o (or_else flaw verdict)) ≡ or_refused o (first_of rest v)
-    after Done = judged flaw ∙ candidate_told s.modulus l (a_cells a) (b_cells b) v
-    after (Refused r) = refl
+    after : (o : Outcome) → verdict_answer (and_then o (and_then flaw verdict)) ≡ or_refused o (first_of rest v)
+    after (Ok tt) = judged flaw ∙ candidate_told s.modulus l (a_cells a) (b_cells b) v
+    after (Err r) = refl
 
     go :
         (x y : Bool) → or_refused (check_of query) (first_of rest v) ≡ first_of (query_refusals query ++ rest) v
-        → verdict_answer (pick x (pick y (or_else (check_of query) (or_else flaw verdict)) (W.Refused R.Buffer)) (W.Refused R.Buffer))
+        → verdict_answer (pick x (pick y (and_then (check_of query) (and_then flaw verdict)) (Err R.Buffer)) (Err R.Buffer))
         ≡ pick (not x) (refused 5) (pick (not y) (refused 5) (first_of (query_refusals query ++ rest) v))
     go false y h = refl
     go true false h = refl
@@ -84,12 +81,12 @@ generate_told m a b l cells e x =
     rest = candidate_refusals m l (a_cells a) (b_cells b)
 
     found : (o : Outcome) → outcome_answer o ≡ or_refused o (granted [])
-    found Done = refl
-    found (Refused r) = refl
+    found (Ok tt) = refl
+    found (Err r) = refl
 
     go :
         (p q r s t : Bool)
-        → outcome_answer (pick p (pick q (pick r (pick s (Refused R.Modulus) (pick t (Refused R.Count) flaw)) (Refused R.Buffer)) (Refused R.Buffer)) (Refused R.Buffer))
+        → outcome_answer (pick p (pick q (pick r (pick s (Err R.Modulus) (pick t (Err R.Count) flaw)) (Err R.Buffer)) (Err R.Buffer)) (Err R.Buffer))
         ≡ pick (not p) (refused 5) (pick (not q) (refused 5) (pick (not r) (refused 5) (pick s (refused 1) (pick t (refused 2) (first_of rest (granted []))))))
     go false q r s t = refl
     go true false r s t = refl

@@ -10,6 +10,7 @@ use native.Mathlib.Omega.{arith}
 use lib.Dec.{ltb, eqb}
 use lib.ListN.{length}
 use borrow.Author.Tests.{ltb-true, ltb-false, eqb-true, lt-ltb, le-ltb, eq-eqb, ne_eqb}
+use Rattle.std.specs.Prelude.{Ok, Err}
 use Rattle.lists.specs.Choice.{both}
 use Rattle.lists.specs.Table.{at}
 use Rattle.lists.specs.Sum.{sum_to}
@@ -24,12 +25,11 @@ use Rattle.recurrence.specs.Running.{cell, generated, first_difference}
 use Rattle.recurrence.proofs.Series.{summand, conv_sum, conv_comm}
 use Rattle.recurrence.proofs.Running.{generated_length, generated_at, cell_same, cell_lt}
 use Rattle.sequence.specs.declared.Refusal.TheVariants as R
-use Rattle.sequence.specs.declared.Outcome.{Outcome}
-use Rattle.sequence.specs.declared.Outcome.TheVariants.{Done, Refused}
 use Rattle.sequence.specs.Limits.{max_cells, max_terms}
 use Rattle.sequence.specs.Rules.{zero_from}
 use Rattle.sequence.proofs.Laws.{zero_from_lem, zero_at, refused_done}
 use Rattle.candidate.specs.Rules.{all_below, fits, flaw_by, flaw_of, Fits, IsFine}
+use Rattle.sequence.specs.Answers.{Outcome}
 
 -- ---- what is wrong with a candidate
 
@@ -63,10 +63,10 @@ fits_last m l a b x y z e = rw (x, y, z) e
 
 -- each of the three refusals with its condition, or none of them
 pub data Found (m l : ℕ) (a b : List ℕ) (o : Outcome) : Type 0 where
-  long : max_terms < l → o ≡ Refused R.CandidateLength → Found m l a b o
-  coefficient : l ≤ max_terms → (Fits m l a b → ⊥) → o ≡ Refused R.CandidateCoefficient → Found m l a b o
-  lead : l ≤ max_terms → Fits m l a b → (at a 0 ≡ 1 → ⊥) → o ≡ Refused R.CandidateLead → Found m l a b o
-  fine : IsFine m l a b → o ≡ Done → Found m l a b o
+  long : max_terms < l → o ≡ Err R.CandidateLength → Found m l a b o
+  coefficient : l ≤ max_terms → (Fits m l a b → ⊥) → o ≡ Err R.CandidateCoefficient → Found m l a b o
+  lead : l ≤ max_terms → Fits m l a b → (at a 0 ≡ 1 → ⊥) → o ≡ Err R.CandidateLead → Found m l a b o
+  fine : IsFine m l a b → o ≡ Ok tt → Found m l a b o
 
 pub found : (m l : ℕ) (a b : List ℕ) → Found m l a b (flaw_of m l a b)
 unfolding flaw_of
@@ -78,12 +78,12 @@ found m l a b = go (ltb max_terms l) (fits m l a b) (eqb (at a 0) 1) refl refl r
     go false true false x' y' z' = lead (ltb-false _ _ x') (fits_of m l a b y') (λ e. false_true (sym z' ∙ eq-eqb _ _ e)) refl
     go false true true x' y' z' = fine (record { short = ltb-false _ _ x'; coefficients = fits_of m l a b y'; lead = eqb-true _ _ z' }) refl
 
-pub of_fine : (m l : ℕ) (a b : List ℕ) → IsFine m l a b → flaw_of m l a b ≡ Done
+pub of_fine : (m l : ℕ) (a b : List ℕ) → IsFine m l a b → flaw_of m l a b ≡ Ok tt
 unfolding flaw_of
 of_fine m l a b f = rw (le-ltb max_terms l f.short, of_fits m l a b f.coefficients, eq-eqb (at a 0) 1 f.lead)
 
 -- nothing wrong was found with it
-pub fine_of : (m l : ℕ) (a b : List ℕ) → flaw_of m l a b ≡ Done → IsFine m l a b
+pub fine_of : (m l : ℕ) (a b : List ℕ) → flaw_of m l a b ≡ Ok tt → IsFine m l a b
 fine_of m l a b h = go (found m l a b)
   where
     go : Found m l a b (flaw_of m l a b) → IsFine m l a b

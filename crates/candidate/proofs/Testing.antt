@@ -10,6 +10,7 @@ use native.Mathlib.Omega.{arith}
 use lib.Dec.{ltb}
 use lib.ListN.{length}
 use borrow.Author.Tests.{ltb-true, ltb-false, lt-ltb, le-ltb, eq-eqb}
+use Rattle.std.specs.Prelude.{Some, None, Ok}
 use Rattle.lists.specs.Choice.{pick}
 use Rattle.lists.specs.Table.{at}
 use Rattle.lists.proofs.Table.{at_past}
@@ -17,16 +18,14 @@ use Rattle.lists.proofs.Search.{first_le, lt_or_le}
 use Rattle.recurrence.specs.Running.{generated, first_difference}
 use Rattle.recurrence.proofs.Running.{yes→runs, runs→yes, no→differs, differs→no}
 use Rattle.sequence.specs.declared.Sequence.{Sequence}
-use Rattle.sequence.specs.declared.Outcome.TheVariants.{Done}
 use Rattle.sequence.specs.Limits.{max_modulus, max_terms, max_cells, a_bytes, b_bytes}
 use Rattle.sequence.specs.Rules.{sequence_of, check_of, IsSound}
-use Rattle.candidate.specs.declared.Verdict.TheVariants.{Yes, No}
 use Rattle.candidate.specs.Rules.{a_cells, b_cells, flaw_of, IsFine, verdict_of, judge_of, verify_of, generate_of}
 use Rattle.candidate.proofs.Laws.{fine_of}
 
 -- ---- neither is refused
 
-pub verify_judges : (query a b : List ℕ) (l : ℕ) → check_of query ≡ Done → length a ≡ a_bytes → length b ≡ b_bytes
+pub verify_judges : (query a b : List ℕ) (l : ℕ) → check_of query ≡ Ok tt → length a ≡ a_bytes → length b ≡ b_bytes
     → verify_of query a b l ≡ judge_of (sequence_of query) (a_cells a) (b_cells b) l
 unfolding verify_of
 verify_judges query a b l h ha hb = rw (eq-eqb (length a) a_bytes ha, eq-eqb (length b) b_bytes hb, h)
@@ -47,22 +46,22 @@ generate_flaw m a b l cells ha hb even least most few =
     )
 
 pub generate_done : (m : ℕ) (a b : List ℕ) (l : ℕ) (cells : List ℕ) (n : ℕ) → 2 ≤ m → m ≤ max_modulus → length a ≡ a_bytes → length b ≡ b_bytes
-    → flaw_of m l (a_cells a) (b_cells b) ≡ Done → length cells ≡ 2 * n → n ≤ max_terms → generate_of m a b l cells ≡ Done
+    → flaw_of m l (a_cells a) (b_cells b) ≡ Ok tt → length cells ≡ 2 * n → n ≤ max_terms → generate_of m a b l cells ≡ Ok tt
 generate_done m a b l cells n least most ha hb good long few = generate_flaw m a b l cells ha hb (omega arith) least most (omega arith) ∙ good
 
 -- ---- verdicts
 
-yes_none : (n d : ℕ) → verdict_of n d ≡ Yes → n ≤ d
+yes_none : (n d : ℕ) → verdict_of n d ≡ Ok None → n ≤ d
 yes_none n d h = go (ltb d n) refl h
   where
-    go : (t : Bool) → ltb d n ≡ t → pick t (No d) Yes ≡ Yes → n ≤ d
+    go : (t : Bool) → ltb d n ≡ t → pick t (Ok (Some d)) (Ok None) ≡ Ok None → n ≤ d
     go true e h = let z : ◌≡◌ {A = ℕ} 0 1 = cc in absurd (omega arith)
     go false e h = ltb-false _ _ e
 
-no_first : (n d j : ℕ) → verdict_of n d ≡ No j → (d ≡ j) × (d < n)
+no_first : (n d j : ℕ) → verdict_of n d ≡ Ok (Some j) → (d ≡ j) × (d < n)
 no_first n d j h = go (ltb d n) refl h
   where
-    go : (t : Bool) → ltb d n ≡ t → pick t (No d) Yes ≡ No j → (d ≡ j) × (d < n)
+    go : (t : Bool) → ltb d n ≡ t → pick t (Ok (Some d)) (Ok None) ≡ Ok (Some j) → (d ≡ j) × (d < n)
     go true e h = (cc, ltb-true _ _ e)
     go false e h = let z : ◌≡◌ {A = ℕ} 0 1 = cc in absurd (omega arith)
 
@@ -73,7 +72,7 @@ abbrev pub GivesAt : Sequence → List ℕ → List ℕ → ℕ → ℕ → Type
 GivesAt s a b l i = at s.terms i ≡ at (generated s.modulus l a b s.count) i
 
 module _ (s : Sequence) (a b : List ℕ) (l : ℕ) (sound : IsSound s) (long_a : length a ≡ max_cells) (long_b : length b ≡ max_terms)
-    (good : flaw_of s.modulus l a b ≡ Done) where
+    (good : flaw_of s.modulus l a b ≡ Ok tt) where
   fine : IsFine s.modulus l a b
   fine = fine_of s.modulus l a b good
 
@@ -102,24 +101,24 @@ module _ (s : Sequence) (a b : List ℕ) (l : ℕ) (sound : IsSound s) (long_a :
       go (inl k) = fine.coefficients.below_b i k
       go (inr k) = omega (arith, at_past b i (omega arith), pos)
 
-  pub yes_gives : judge_of s a b l ≡ Yes → (i : ℕ) → i < s.count → GivesAt s a b l i
+  pub yes_gives : judge_of s a b l ≡ Ok None → (i : ℕ) → i < s.count → GivesAt s a b l i
   yes_gives h =
       yes→runs s.modulus l a b pos fine.lead past small s.terms s.count sound.below
       (omega (arith, within, yes_none s.count (first_difference s.modulus s.terms a b s.count) (sym judged ∙ h)))
 
-  pub gives_yes : ((i : ℕ) → i < s.count → GivesAt s a b l i) → judge_of s a b l ≡ Yes
+  pub gives_yes : ((i : ℕ) → i < s.count → GivesAt s a b l i) → judge_of s a b l ≡ Ok None
   gives_yes h =
       judged
       ∙ rw (runs→yes s.modulus l a b pos fine.lead past small s.terms s.count sound.below h, le-ltb s.count s.count (le_refl _))
 
-  pub no_differs : (j : ℕ) → judge_of s a b l ≡ No j → (j < s.count) × ((i : ℕ) → i < j → GivesAt s a b l i) × (GivesAt s a b l j → ⊥)
+  pub no_differs : (j : ℕ) → judge_of s a b l ≡ Ok (Some j) → (j < s.count) × ((i : ℕ) → i < j → GivesAt s a b l i) × (GivesAt s a b l j → ⊥)
   no_differs j h =
       let e = no_first s.count (first_difference s.modulus s.terms a b s.count) j (sym judged ∙ h) in
       let k : j < s.count = subst (λ (z : ℕ). z < s.count) e.0 e.1 in
       let r = no→differs s.modulus l a b pos fine.lead past small s.terms s.count sound.below j e.0 k in
       (k, r.0, r.1)
 
-  pub differs_no : (j : ℕ) → j < s.count → ((i : ℕ) → i < j → GivesAt s a b l i) → (GivesAt s a b l j → ⊥) → judge_of s a b l ≡ No j
+  pub differs_no : (j : ℕ) → j < s.count → ((i : ℕ) → i < j → GivesAt s a b l i) → (GivesAt s a b l j → ⊥) → judge_of s a b l ≡ Ok (Some j)
   differs_no j k below other =
       judged
       ∙ rw (differs→no s.modulus l a b pos fine.lead past small s.terms s.count sound.below j k below other, lt-ltb j s.count k)

@@ -1,6 +1,6 @@
 -- Candidate registers (the paper's claims): when one is malformed, what testing one against a query replies, and what running one gives.
 -- Assumes nothing.
-use Rattle.std.specs.Prelude.{◌≡◌, Bool, not, List, [], ◌∷◌, ◌++◌, ℕ, zero, ◌+◌, ◌/◌, ◌%◌, ◌≤◌, ◌<◌, ltb, eqb, length}
+use Rattle.std.specs.Prelude.{◌≡◌, Bool, not, List, [], ◌∷◌, ◌++◌, ℕ, zero, ◌+◌, ◌/◌, ◌%◌, ◌≤◌, ◌<◌, ltb, eqb, length, Some, None, Ok, Err}
 use Rattle.lists.specs.Choice.{pick, both}
 use Rattle.lists.specs.Table.{at}
 use Rattle.lists.specs.Search.{all}
@@ -8,13 +8,9 @@ use Rattle.cells.specs.Cell.{cells_from, bytes_of}
 use Rattle.recurrence.specs.Running.{generated, first_difference}
 use Rattle.sequence.specs.declared.Sequence.{Sequence}
 use Rattle.sequence.specs.declared.Refusal.TheVariants as R
-use Rattle.sequence.specs.declared.Outcome.{Outcome}
-use Rattle.sequence.specs.declared.Outcome.TheVariants.{Done, Refused}
 use Rattle.sequence.specs.Limits.{max_terms, max_cells, a_bytes, b_bytes}
-use Rattle.sequence.specs.Answers.{Answer, granted, refused, refusal, first_of}
+use Rattle.sequence.specs.Answers.{Answer, granted, refused, refusal, first_of, Outcome, and_then}
 use Rattle.sequence.specs.Rules.{outside, zero_from, sequence_of, check_of, query_refusals}
-use Rattle.candidate.specs.declared.Verdict.{Verdict}
-use Rattle.candidate.specs.declared.Verdict.TheVariants as W
 
 -- the coefficients in a lent buffer: a_0 .. a_128, b_0 .. b_127
 abbrev pub a_cells : List ℕ → List ℕ
@@ -33,7 +29,7 @@ fits m l a b = both (all_below m max_cells a) (both (all_below m max_terms b) (b
 
 -- the first thing wrong with a candidate, by its tests: 25 where it is too long, 6 where a coefficient does not fit, 26 where a_0 is not 1
 abbrev pub flaw_by : Bool → Bool → Bool → Outcome
-flaw_by long coefficient lead = pick long (Refused R.CandidateLength) (pick coefficient (Refused R.CandidateCoefficient) (pick lead (Refused R.CandidateLead) Done))
+flaw_by long coefficient lead = pick long (Err R.CandidateLength) (pick coefficient (Err R.CandidateCoefficient) (pick lead (Err R.CandidateLead) (Ok tt)))
 
 unfoldable pub flaw_of : ℕ → ℕ → List ℕ → List ℕ → Outcome
 flaw_of m l a b = flaw_by (ltb max_terms l) (not (fits m l a b)) (not (eqb (at a 0) 1))
@@ -48,31 +44,31 @@ candidate_refusals m l a b =
 
 -- yes has no value, no the place
 abbrev pub verdict_answer : Verdict → Answer
-verdict_answer W.Yes = granted []
-verdict_answer (W.No i) = granted (i ∷ [])
-verdict_answer (W.Refused r) = refusal r
+verdict_answer (Ok None) = granted []
+verdict_answer (Ok (Some i)) = granted (i ∷ [])
+verdict_answer (Err r) = refusal r
 
 -- ---- testing
 
 -- yes, or no with the first place where the product and b differ
 abbrev pub verdict_of : ℕ → ℕ → Verdict
-verdict_of n i = pick (ltb i n) (W.No i) W.Yes
+verdict_of n i = pick (ltb i n) (Ok (Some i)) (Ok None)
 
-abbrev pub or_else : Outcome → Verdict → Verdict
-or_else Done v = v
-or_else (Refused r) v = W.Refused r
+abbrev pub and_then : Outcome → Verdict → Verdict
+and_then (Ok tt) v = v
+and_then (Err r) v = Err r
 
 -- the test against a sound sequence: 25, 6, 26, or the verdict
 unfoldable pub judge_of : Sequence → List ℕ → List ℕ → ℕ → Verdict
 judge_of s a b l =
-    or_else (flaw_of s.modulus l a b) (verdict_of s.count (first_difference s.modulus s.terms a b s.count))
+    and_then (flaw_of s.modulus l a b) (verdict_of s.count (first_difference s.modulus s.terms a b s.count))
 
 -- 5 (query, a, b), 1, 2, 3, 4, 25, 6, 26, in this order; else the verdict
 unfoldable pub verify_of : List ℕ → List ℕ → List ℕ → ℕ → Verdict
 verify_of query a b l =
     pick (eqb (length a) a_bytes)
-    (pick (eqb (length b) b_bytes) (or_else (check_of query) (judge_of (sequence_of query) (a_cells a) (b_cells b) l)) (W.Refused R.Buffer))
-    (W.Refused R.Buffer)
+    (pick (eqb (length b) b_bytes) (and_then (check_of query) (judge_of (sequence_of query) (a_cells a) (b_cells b) l)) (Err R.Buffer))
+    (Err R.Buffer)
 
 unfoldable pub verify_answer : List ℕ → List ℕ → List ℕ → ℕ → Answer
 verify_answer query a b l =
@@ -92,12 +88,12 @@ generate_of m a b l cells =
     pick (eqb (length a) a_bytes)
     (pick (eqb (length b) b_bytes)
     (pick (eqb (length cells % 2) 0)
-    (pick (outside m) (Refused R.Modulus)
-    (pick (ltb max_terms (length cells / 2)) (Refused R.Count)
+    (pick (outside m) (Err R.Modulus)
+    (pick (ltb max_terms (length cells / 2)) (Err R.Count)
     (flaw_of m l (a_cells a) (b_cells b))))
-    (Refused R.Buffer))
-    (Refused R.Buffer))
-    (Refused R.Buffer)
+    (Err R.Buffer))
+    (Err R.Buffer))
+    (Err R.Buffer)
 
 unfoldable pub generate_answer : ℕ → List ℕ → List ℕ → ℕ → List ℕ → Answer
 generate_answer m a b l cells =
@@ -112,8 +108,8 @@ generate_answer m a b l cells =
 
 -- the cells at exit: run whole, or as lent
 abbrev pub generated_in : Outcome → ℕ → List ℕ → List ℕ → ℕ → List ℕ → List ℕ
-generated_in Done m a b l cells = bytes_of (generated m l (a_cells a) (b_cells b) (length cells / 2))
-generated_in (Refused r) m a b l cells = cells
+generated_in (Ok tt) m a b l cells = bytes_of (generated m l (a_cells a) (b_cells b) (length cells / 2))
+generated_in (Err r) m a b l cells = cells
 
 -- what 6 asks of a candidate of length l modulo m
 pub record Fits (m l : ℕ) (a b : List ℕ) : Type 0 where

@@ -6,17 +6,13 @@ use mathlib.Core.List.{List, [], ◌∷◌, ◌++◌}
 use Prim.Native.Nat.{ℕ, ◌%◌}
 use lib.Dec.{ltb, eqb}
 use lib.ListN.{length}
+use Rattle.std.specs.Prelude.{Some, None, Ok, Err}
 use Rattle.lists.specs.Choice.{pick, both}
 use Rattle.sequence.specs.declared.Refusal.TheVariants as R
-use Rattle.sequence.specs.declared.Outcome.{Outcome}
-use Rattle.sequence.specs.declared.Outcome.TheVariants as O
-use Rattle.sequence.specs.Answers.{Answer, granted, refused, outcome_answer, first_of}
+use Rattle.sequence.specs.Answers.{Answer, granted, refused, outcome_answer, first_of, Outcome, and_then}
 use Rattle.sequence.specs.Rules.{sequence_of, check_of, query_refusals}
 use Rattle.sequence.proofs.Answers.{or_refused, query_told}
-use Rattle.catalogue.specs.declared.LookedUp.{LookedUp}
-use Rattle.catalogue.specs.declared.LookedUp.TheVariants as S
-use Rattle.catalogue.specs.declared.Match.TheVariants as M
-use Rattle.catalogue.specs.Rules.{record_bytes, synthesize_of, synthesize_answer, records, record_at, first_match, match_of, passes, serve_of, fetch_of, looked_up_answer, or_else, look_up_of, look_up_answer}
+use Rattle.catalogue.specs.Rules.{record_bytes, synthesize_of, synthesize_answer, records, record_at, first_match, match_of, passes, serve_of, fetch_of, looked_up_answer, look_up_of, look_up_answer, LookedUp}
 
 -- Each law takes the equation of a reply, and what is promised beside it, and adds the answer: the whole promise of the call.
 pub synthesize_told :
@@ -26,13 +22,13 @@ unfolding synthesize_of synthesize_answer first_of
 synthesize_told query out e x = record { value = e; out_after = x; result_value = ap outcome_answer e ∙ go (eqb (length out) record_bytes) }
   where
     after : (o : Outcome) → outcome_answer o ≡ or_refused o (granted [])
-    after O.Done = refl
-    after (O.Refused r) = refl
+    after (Ok tt) = refl
+    after (Err r) = refl
 
     checked : outcome_answer (check_of query) ≡ first_of (query_refusals query) (granted [])
     checked = after (check_of query) ∙ query_told query [] (granted [])
 
-    go : (t : Bool) → outcome_answer (pick t (check_of query) (O.Refused R.Buffer)) ≡ pick (not t) (refused 5) (first_of (query_refusals query) (granted []))
+    go : (t : Bool) → outcome_answer (pick t (check_of query) (Err R.Buffer)) ≡ pick (not t) (refused 5) (first_of (query_refusals query) (granted []))
     go false = refl
     go true = checked
 
@@ -62,26 +58,26 @@ look_up_told query catalogue out e x = record { value = e; out_after = x; result
 
     -- the reply behind the query's own checks
     fetched : LookedUp
-    fetched = pick whole (serve_of (sequence_of query) catalogue (match_of (records catalogue) i)) (S.Refused R.Catalogue)
+    fetched = pick whole (serve_of (sequence_of query) catalogue (match_of (records catalogue) i)) (Err R.Catalogue)
 
-    served : (g : Bool) → looked_up_answer (pick g (S.Found i) (S.Refused R.Record)) ≡ pick (not g) (refused 24) (granted (i ∷ []))
+    served : (g : Bool) → looked_up_answer (pick g (Ok (Some i)) (Err R.Record)) ≡ pick (not g) (refused 24) (granted (i ∷ []))
     served true = refl
     served false = refl
 
     looked :
         (t f : Bool)
-        → looked_up_answer (pick t (serve_of (sequence_of query) catalogue (pick f (M.At i) M.Nowhere)) (S.Refused R.Catalogue))
+        → looked_up_answer (pick t (serve_of (sequence_of query) catalogue (pick f (Some i) None)) (Err R.Catalogue))
         ≡ pick (not t) (refused 23) (pick (both f (not good)) (refused 24) (pick f (granted (i ∷ [])) (granted [])))
     looked false f = refl
     looked true false = refl
     looked true true = served good
 
-    after : (o : Outcome) → looked_up_answer (or_else o fetched) ≡ or_refused o (first_of rest v)
-    after O.Done = looked whole met
-    after (O.Refused r) = refl
+    after : (o : Outcome) → looked_up_answer (and_then o fetched) ≡ or_refused o (first_of rest v)
+    after (Ok tt) = looked whole met
+    after (Err r) = refl
 
     go :
         (t : Bool)
-        → looked_up_answer (pick t (or_else (check_of query) fetched) (S.Refused R.Buffer)) ≡ pick (not t) (refused 5) (first_of (query_refusals query ++ rest) v)
+        → looked_up_answer (pick t (and_then (check_of query) fetched) (Err R.Buffer)) ≡ pick (not t) (refused 5) (first_of (query_refusals query ++ rest) v)
     go false = refl
     go true = after (check_of query) ∙ query_told query rest v

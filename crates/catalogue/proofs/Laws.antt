@@ -11,6 +11,7 @@ use lib.ListN.{length, take, drop, set, length-drop, length-append, drop_of_leng
 use lib.Seq.{take_at, drop_at, take_all, length-take-le, get_or-take}
 use borrow.Rule.Slice.PartMut.{put_mid, post_of}
 use borrow.Author.Tests.{lt-ltb, le-ltb, eq-eqb, ltb-true}
+use Rattle.std.specs.Prelude.{Option, Some, None, Ok, Err}
 use Rattle.lists.specs.Choice.{pick}
 use Rattle.lists.specs.Table.{at}
 use Rattle.lists.specs.Search.{first}
@@ -21,16 +22,11 @@ use Rattle.synthesis.specs.declared.Synthesis.{Synthesis}
 use Rattle.synthesis.specs.Synthesis.{synthesis_of}
 use Rattle.sequence.specs.declared.Sequence.{Sequence}
 use Rattle.sequence.specs.declared.Refusal.TheVariants as R
-use Rattle.sequence.specs.declared.Outcome.{Outcome}
-use Rattle.sequence.specs.declared.Outcome.TheVariants as O
 use Rattle.sequence.specs.Limits.{query_bytes, register_bytes}
 use Rattle.sequence.specs.Rules.{sequence_of, check_of}
-use Rattle.catalogue.specs.declared.Match.{Match}
-use Rattle.catalogue.specs.declared.Match.TheVariants as M
-use Rattle.catalogue.specs.declared.LookedUp.{LookedUp}
-use Rattle.catalogue.specs.declared.LookedUp.TheVariants as S
 use Rattle.catalogue.specs.Word.{word_of}
-use Rattle.catalogue.specs.Rules.{record_bytes, body_bytes, body, no_number, a_place, layout, record_of, record_at, is_of, records, first_match, match_of, passes, serve_of, fetch_of, or_else, look_up_of, editor, seen_by, served_in}
+use Rattle.catalogue.specs.Rules.{record_bytes, body_bytes, body, no_number, a_place, layout, record_of, record_at, is_of, records, first_match, match_of, passes, serve_of, fetch_of, look_up_of, editor, seen_by, served_in, LookedUp}
+use Rattle.sequence.specs.Answers.{Outcome, and_then}
 
 -- ---- filling a record
 
@@ -149,7 +145,7 @@ word_tells query entry x y hx hy differ =
 
 pub found :
     (query catalogue : List ℕ) (i : ℕ) → i < records catalogue → ((j : ℕ) → j < i → is_of query (record_at catalogue j) ≡ false) →
-    is_of query (record_at catalogue i) ≡ true → M.At i ≡ match_of (records catalogue) (first_match query catalogue (records catalogue))
+    is_of query (record_at catalogue i) ≡ true → Some i ≡ match_of (records catalogue) (first_match query catalogue (records catalogue))
 unfolding first_match
 found query catalogue i h b e =
     let f : i ≡ first (records catalogue) (λ j. is_of query (record_at catalogue j)) = is_first (records catalogue) (λ j. is_of query (record_at catalogue j)) i (omega arith) b (λ k. e) in
@@ -157,7 +153,7 @@ found query catalogue i h b e =
 
 pub missed :
     (query catalogue : List ℕ) → ((j : ℕ) → j < records catalogue → is_of query (record_at catalogue j) ≡ false) →
-    M.Nowhere ≡ match_of (records catalogue) (first_match query catalogue (records catalogue))
+    None ≡ match_of (records catalogue) (first_match query catalogue (records catalogue))
 unfolding first_match
 missed query catalogue b =
     let n : ℕ = records catalogue in
@@ -165,25 +161,25 @@ missed query catalogue b =
     rw (← f, le-ltb n n (omega arith))
 
 -- a match is below the number of records that were searched
-pub match_below : (n k i : ℕ) → match_of n k ≡ M.At i → i < n
+pub match_below : (n k i : ℕ) → match_of n k ≡ Some i → i < n
 match_below n k i h = go (ltb k n) refl h
   where
-    go : (b : Bool) → ltb k n ≡ b → pick b (M.At k) M.Nowhere ≡ M.At i → i < n
+    go : (b : Bool) → ltb k n ≡ b → pick b (Some k) None ≡ Some i → i < n
     go true e q = let z : k ≡ i = cc in subst (λ (y : ℕ). y < n) z (ltb-true k n e)
     go false e q = let z : ◌≡◌ {A = ℕ} 0 1 = cc in absurd (omega arith)
 
 -- what serving record i leaves in the lent buffer
 pub is_served :
-    (s : Sequence) (query catalogue : List ℕ) (who : ℕ) (out : List ℕ) (i : ℕ) {r : LookedUp} {x : List ℕ} → r ≡ serve_of s catalogue (M.At i) →
+    (s : Sequence) (query catalogue : List ℕ) (who : ℕ) (out : List ℕ) (i : ℕ) {r : LookedUp} {x : List ℕ} → r ≡ serve_of s catalogue (Some i) →
     x ≡ pick (passes s (record_at catalogue i)) (seen_by who (record_at catalogue i)) out → x ≡ served_in who r query catalogue out
 is_served s query catalogue who out i e f = f ∙ go (passes s (record_at catalogue i)) ∙ ap (λ (t : LookedUp). served_in who t query catalogue out) (sym e)
   where
-    go : (g : Bool) → pick g (seen_by who (record_at catalogue i)) out ≡ served_in who (pick g (S.Found i) (S.Refused R.Record)) query catalogue out
+    go : (g : Bool) → pick g (seen_by who (record_at catalogue i)) out ≡ served_in who (pick g (Ok (Some i)) (Err R.Record)) query catalogue out
     go true = refl
     go false = refl
 
 -- a record that is said to be found is in the catalogue
-pub found_below : (query catalogue out : List ℕ) (i : ℕ) → look_up_of query catalogue out ≡ S.Found i → i < records catalogue
+pub found_below : (query catalogue out : List ℕ) (i : ℕ) → look_up_of query catalogue out ≡ Ok (Some i) → i < records catalogue
 unfolding look_up_of fetch_of
 found_below query catalogue out i h =
     go (eqb (length out) record_bytes) (check_of query) (eqb (length catalogue % record_bytes) 0) (match_of (records catalogue) k) refl h
@@ -191,30 +187,30 @@ found_below query catalogue out i h =
     k : ℕ
     k = first_match query catalogue (records catalogue)
 
-    served : (j : ℕ) (g : Bool) → match_of (records catalogue) k ≡ M.At j → pick g (S.Found j) (S.Refused R.Record) ≡ S.Found i → i < records catalogue
+    served : (j : ℕ) (g : Bool) → match_of (records catalogue) k ≡ Some j → pick g (Ok (Some j)) (Err R.Record) ≡ Ok (Some i) → i < records catalogue
     served j true e q = let z : j ≡ i = cc in subst (λ (y : ℕ). y < records catalogue) z (match_below (records catalogue) k j e)
     served j false e q = let z : ◌≡◌ {A = ℕ} 0 1 = cc in absurd (omega arith)
 
     go :
-        (b : Bool) (o : Outcome) (d : Bool) (f : Match) → match_of (records catalogue) k ≡ f →
-        pick b (or_else o (pick d (serve_of (sequence_of query) catalogue f) (S.Refused R.Catalogue))) (S.Refused R.Buffer) ≡ S.Found i → i < records catalogue
+        (b : Bool) (o : Outcome) (d : Bool) (f : Option ℕ) → match_of (records catalogue) k ≡ f →
+        pick b (and_then o (pick d (serve_of (sequence_of query) catalogue f) (Err R.Catalogue))) (Err R.Buffer) ≡ Ok (Some i) → i < records catalogue
     go false o d f e q = let z : ◌≡◌ {A = ℕ} 0 1 = cc in absurd (omega arith)
-    go true (O.Refused r) d f e q = let z : ◌≡◌ {A = ℕ} 0 1 = cc in absurd (omega arith)
-    go true O.Done false f e q = let z : ◌≡◌ {A = ℕ} 0 1 = cc in absurd (omega arith)
-    go true O.Done true M.Nowhere e q = let z : ◌≡◌ {A = ℕ} 0 1 = cc in absurd (omega arith)
-    go true O.Done true (M.At j) e q = served j (passes (sequence_of query) (record_at catalogue j)) e q
+    go true (Err r) d f e q = let z : ◌≡◌ {A = ℕ} 0 1 = cc in absurd (omega arith)
+    go true (Ok tt) false f e q = let z : ◌≡◌ {A = ℕ} 0 1 = cc in absurd (omega arith)
+    go true (Ok tt) true None e q = let z : ◌≡◌ {A = ℕ} 0 1 = cc in absurd (omega arith)
+    go true (Ok tt) true (Some j) e q = served j (passes (sequence_of query) (record_at catalogue j)) e q
 
 -- a query that passed its checks, in a catalogue of whole records: its first record is tested, and without one a record is made
-module _ (query catalogue out : List ℕ) (size : length out ≡ record_bytes) (passed : check_of query ≡ O.Done) (whole : length catalogue % record_bytes ≡ 0) where
-  pub look_up_made : records catalogue ≤ first_match query catalogue (records catalogue) → look_up_of query catalogue out ≡ S.Made
+module _ (query catalogue out : List ℕ) (size : length out ≡ record_bytes) (passed : check_of query ≡ Ok tt) (whole : length catalogue % record_bytes ≡ 0) where
+  pub look_up_made : records catalogue ≤ first_match query catalogue (records catalogue) → look_up_of query catalogue out ≡ Ok None
   unfolding look_up_of fetch_of
   look_up_made h = rw (eq-eqb _ _ size, passed, eq-eqb _ _ whole, le-ltb _ _ h)
 
   pub look_up_met :
       first_match query catalogue (records catalogue) < records catalogue
       → look_up_of query catalogue out
-      ≡ pick (passes (sequence_of query) (record_at catalogue (first_match query catalogue (records catalogue)))) (S.Found (first_match query catalogue (records catalogue)))
-      (S.Refused R.Record)
+      ≡ pick (passes (sequence_of query) (record_at catalogue (first_match query catalogue (records catalogue)))) (Ok (Some (first_match query catalogue (records catalogue))))
+      (Err R.Record)
   unfolding look_up_of fetch_of
   look_up_met h = rw (eq-eqb _ _ size, passed, eq-eqb _ _ whole, lt-ltb _ _ h)
 
@@ -222,4 +218,4 @@ module _ (query catalogue out : List ℕ) (size : length out ≡ record_bytes) (
 pub look_up_lent : (query catalogue out out' : List ℕ) → length out ≡ length out' → look_up_of query catalogue out ≡ look_up_of query catalogue out'
 unfolding look_up_of
 look_up_lent query catalogue out out' h =
-    ap (λ (n : ℕ). pick (eqb n record_bytes) (or_else (check_of query) (fetch_of query catalogue)) (S.Refused R.Buffer)) h
+    ap (λ (n : ℕ). pick (eqb n record_bytes) (and_then (check_of query) (fetch_of query catalogue)) (Err R.Buffer)) h

@@ -8,6 +8,7 @@ use native.Mathlib.Omega.{arith}
 use lib.Dec.{eqb}
 use lib.ListN.{length, take, drop, length-drop, length-append, get_or-append}
 use lib.Seq.{take_at, drop_at, drop-drop, take_all, length-take-le, get_or-append-add}
+use Rattle.std.specs.Prelude.{Some, None, Ok, Err}
 use Rattle.lists.specs.Choice.{pick}
 use Rattle.lists.specs.Table.{at, tabulate}
 use Rattle.lists.proofs.Table.{length_tabulate}
@@ -17,9 +18,7 @@ use Rattle.sequence.specs.declared.Sequence.{Sequence}
 use Rattle.sequence.specs.Limits.{query_bytes, a_bytes, b_bytes, max_cells, max_terms}
 use Rattle.sequence.specs.Rules.{sequence_of}
 use Rattle.sequence.specs.Report.{register_of, a_buffer, b_buffer}
-use Rattle.catalogue.specs.declared.LookedUp.{LookedUp}
-use Rattle.catalogue.specs.declared.LookedUp.TheVariants as S
-use Rattle.catalogue.specs.Rules.{record_bytes, body_bytes, body, no_number, a_place, b_place, length_cell, layout, record_of, record_at, records, look_up_of, editor, seen_by, served_in}
+use Rattle.catalogue.specs.Rules.{record_bytes, body_bytes, body, no_number, a_place, b_place, length_cell, layout, record_of, record_at, records, look_up_of, editor, seen_by, served_in, LookedUp}
 use Rattle.catalogue.proofs.Body.{part_same, cell_same}
 use Rattle.catalogue.proofs.Laws.{found_below}
 
@@ -129,6 +128,6 @@ pub served_size :
 served_size who query catalogue out hq ho = go (look_up_of query catalogue out) refl
   where
     go : (t : LookedUp) → look_up_of query catalogue out ≡ t → length (served_in who t query catalogue out) ≡ record_bytes
-    go (S.Found i) e = seen_size who (record_at catalogue i) (record_size catalogue i (found_below query catalogue out i e))
-    go S.Made e = made_size query hq
-    go (S.Refused r) e = ho
+    go (Ok (Some i)) e = seen_size who (record_at catalogue i) (record_size catalogue i (found_below query catalogue out i e))
+    go (Ok None) e = made_size query hq
+    go (Err r) e = ho

@@ -1,24 +1,16 @@
 -- Records and catalogues (the paper's shelf): the record made of a query, and what looking one up replies.
 -- Assumes nothing.
-use Rattle.std.specs.Prelude.{Bool, true, false, not, List, [], ◌∷◌, ◌++◌, ℕ, ◌*◌, ◌/◌, ◌%◌, ltb, eqb, length, take, drop}
+use Rattle.std.specs.Prelude.{Bool, true, false, not, List, [], ◌∷◌, ◌++◌, ℕ, ◌*◌, ◌/◌, ◌%◌, ltb, eqb, length, take, drop, Option, Some, None, Ok, Err}
 use Rattle.lists.specs.Choice.{pick, both}
 use Rattle.lists.specs.Search.{first}
 use Rattle.cells.specs.Cell.{cell_at, bytes_of, equal}
 use Rattle.sequence.specs.declared.Sequence.{Sequence}
 use Rattle.sequence.specs.declared.Refusal.TheVariants as R
-use Rattle.sequence.specs.declared.Outcome.{Outcome}
-use Rattle.sequence.specs.declared.Outcome.TheVariants as O
 use Rattle.sequence.specs.Limits.{query_bytes, a_bytes, b_bytes}
-use Rattle.sequence.specs.Answers.{Answer, granted, refused, refusal, first_of}
+use Rattle.sequence.specs.Answers.{Answer, granted, refused, refusal, first_of, Outcome, and_then}
 use Rattle.sequence.specs.Rules.{sequence_of, check_of, query_refusals}
 use Rattle.sequence.specs.Report.{register_of, a_buffer, b_buffer}
-use Rattle.candidate.specs.declared.Verdict.{Verdict}
-use Rattle.candidate.specs.declared.Verdict.TheVariants as W
-use Rattle.candidate.specs.Rules.{a_cells, b_cells, judge_of}
-use Rattle.catalogue.specs.declared.LookedUp.{LookedUp}
-use Rattle.catalogue.specs.declared.LookedUp.TheVariants as S
-use Rattle.catalogue.specs.declared.Match.{Match}
-use Rattle.catalogue.specs.declared.Match.TheVariants as M
+use Rattle.candidate.specs.Rules.{a_cells, b_cells, judge_of, Verdict}
 
 -- a record: the query at 0, the length at 260, a at 262, b at 520, the accession number at 776; what stands before the number is its body
 abbrev pub record_bytes : ℕ
@@ -53,7 +45,7 @@ record_of query = layout query (sequence_of query) ++ no_number
 
 -- 5 (query, record), 1, 2, 3, 4, in this order
 unfoldable pub synthesize_of : List ℕ → List ℕ → Outcome
-synthesize_of query out = pick (eqb (length out) record_bytes) (check_of query) (O.Refused R.Buffer)
+synthesize_of query out = pick (eqb (length out) record_bytes) (check_of query) (Err R.Buffer)
 
 unfoldable pub synthesize_answer : List ℕ → List ℕ → Answer
 synthesize_answer query out = first_of ((not (eqb (length out) record_bytes), refused 5) ∷ query_refusals query) (granted [])
@@ -62,9 +54,9 @@ synthesize_answer query out = first_of ((not (eqb (length out) record_bytes), re
 
 -- a record found has its place as value, one made has none
 abbrev pub looked_up_answer : LookedUp → Answer
-looked_up_answer S.Made = granted []
-looked_up_answer (S.Found i) = granted (i ∷ [])
-looked_up_answer (S.Refused r) = refusal r
+looked_up_answer (Ok None) = granted []
+looked_up_answer (Ok (Some i)) = granted (i ∷ [])
+looked_up_answer (Err r) = refusal r
 
 -- record i of a catalogue
 abbrev pub record_at : List ℕ → ℕ → List ℕ
@@ -81,37 +73,37 @@ is_of query entry = equal query (take query_bytes entry)
 unfoldable pub first_match : List ℕ → List ℕ → ℕ → ℕ
 first_match query catalogue n = first n (λ i. is_of query (record_at catalogue i))
 
-abbrev pub match_of : ℕ → ℕ → Match
-match_of n i = pick (ltb i n) (M.At i) M.Nowhere
+abbrev pub match_of : ℕ → ℕ → Option ℕ
+match_of n i = pick (ltb i n) (Some i) None
 
 abbrev pub is_yes : Verdict → Bool
-is_yes W.Yes = true
-is_yes (W.No i) = false
-is_yes (W.Refused r) = false
+is_yes (Ok None) = true
+is_yes (Ok (Some i)) = false
+is_yes (Err r) = false
 
 -- the register in a record is a well-formed candidate that passes the test against the query's sequence
 unfoldable pub passes : Sequence → List ℕ → Bool
 passes s entry = is_yes (judge_of s (a_cells (take a_bytes (drop a_place entry))) (b_cells (take b_bytes (drop b_place entry))) (cell_at entry length_cell))
 
 -- the first match alone decides: 24, or it is served
-abbrev pub serve_of : Sequence → List ℕ → Match → LookedUp
-serve_of s catalogue (M.At i) = pick (passes s (record_at catalogue i)) (S.Found i) (S.Refused R.Record)
-serve_of s catalogue M.Nowhere = S.Made
+abbrev pub serve_of : Sequence → List ℕ → Option ℕ → LookedUp
+serve_of s catalogue (Some i) = pick (passes s (record_at catalogue i)) (Ok (Some i)) (Err R.Record)
+serve_of s catalogue None = Ok None
 
 -- for a query that passed its checks: 23, 24, or found, or made
 unfoldable pub fetch_of : List ℕ → List ℕ → LookedUp
 fetch_of query catalogue =
     pick (eqb (length catalogue % record_bytes) 0)
     (serve_of (sequence_of query) catalogue (match_of (records catalogue) (first_match query catalogue (records catalogue))))
-    (S.Refused R.Catalogue)
+    (Err R.Catalogue)
 
-abbrev pub or_else : Outcome → LookedUp → LookedUp
-or_else O.Done t = t
-or_else (O.Refused r) t = S.Refused r
+abbrev pub and_then : Outcome → LookedUp → LookedUp
+and_then (Ok tt) t = t
+and_then (Err r) t = Err r
 
 -- 5 (query, record), 1, 2, 3, 4, 23, 24, in this order
 unfoldable pub look_up_of : List ℕ → List ℕ → List ℕ → LookedUp
-look_up_of query catalogue out = pick (eqb (length out) record_bytes) (or_else (check_of query) (fetch_of query catalogue)) (S.Refused R.Buffer)
+look_up_of query catalogue out = pick (eqb (length out) record_bytes) (and_then (check_of query) (fetch_of query catalogue)) (Err R.Buffer)
 
 unfoldable pub look_up_answer : List ℕ → List ℕ → List ℕ → Answer
 look_up_answer query catalogue out =
@@ -135,6 +127,6 @@ seen_by who entry = pick (eqb who editor) entry (body entry ++ no_number)
 
 -- the record at exit: the one found, as who asks sees it, the one made, or as lent
 abbrev pub served_in : ℕ → LookedUp → List ℕ → List ℕ → List ℕ → List ℕ
-served_in who (S.Found i) query catalogue out = seen_by who (record_at catalogue i)
-served_in who S.Made query catalogue out = record_of query
-served_in who (S.Refused r) query catalogue out = out
+served_in who (Ok (Some i)) query catalogue out = seen_by who (record_at catalogue i)
+served_in who (Ok None) query catalogue out = record_of query
+served_in who (Err r) query catalogue out = out

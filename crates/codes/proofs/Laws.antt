@@ -4,10 +4,9 @@ use mathlib.Core.Path.{◌≡◌, refl, sym, ap, ap₂, ◌∙◌}
 use mathlib.Core.List.{List, [], ◌∷◌}
 use Prim.Native.Nat.{ℕ, zero, suc, ◌+◌, ◌*◌, ◌%◌, ◌<◌, min}
 use native.Mathlib.Omega.{arith}
+use Rattle.std.specs.Prelude.{Option, Some, None}
 use Rattle.sequence.specs.declared.Refusal.{Refusal}
 use Rattle.sequence.specs.declared.Refusal.TheVariants as R
-use Rattle.sequence.specs.declared.Place.{Place}
-use Rattle.sequence.specs.declared.Place.TheVariants.{At, Nowhere}
 use Rattle.sequence.specs.Answers.{granted, refusal, placed}
 use Rattle.codes.specs.Codes.{last_place, value_by, code_of, length_code_of, digits, counts_code_of}
 
@@ -54,12 +53,12 @@ at_place r i = told_same suc (λ v. min v last_place) r (i ∷ []) ∙ go (refus
 pub length_refused : (r : Refusal) → length_code_of (refusal r) ≡ code_of (refusal r)
 length_refused r = ap (λ (v : ℕ). (refusal r).number + 256 * v) (told_same (λ l. l) suc r (refusal r).values)
 
-pub placed_code : (r : Refusal) {n i t : ℕ} {p : Place} → n ≡ (refusal r).number → placed p ≡ (refusal r).values → p ≡ At i → t ≡ min i last_place → n + 256 * t ≡ code_of (refusal r)
+pub placed_code : (r : Refusal) {n i t : ℕ} {p : (Option ℕ)} → n ≡ (refusal r).number → placed p ≡ (refusal r).values → p ≡ Some i → t ≡ min i last_place → n + 256 * t ≡ code_of (refusal r)
 placed_code r {n} {i} e h k l =
     ap₂ (λ (x y : ℕ). x + 256 * y) e (l ∙ sym (at_place r i) ∙ ap (value_by suc (refusal r).number) (ap placed (sym k) ∙ h))
 
 -- and one without a place is its number
-pub plain_code : (r : Refusal) {n : ℕ} {p : Place} → n ≡ (refusal r).number → placed p ≡ (refusal r).values → p ≡ Nowhere → n ≡ code_of (refusal r)
+pub plain_code : (r : Refusal) {n : ℕ} {p : (Option ℕ)} → n ≡ (refusal r).number → placed p ≡ (refusal r).values → p ≡ None → n ≡ code_of (refusal r)
 plain_code r {n} e h k =
     (let z : n ≡ n + 256 * 0 = omega arith in z)
     ∙ ap₂ (λ (x : ℕ) (vs : List ℕ). x + 256 * value_by suc x vs) e (ap placed (sym k) ∙ h)

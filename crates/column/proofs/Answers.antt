@@ -8,10 +8,10 @@ use native.Mathlib.Omega.{arith}
 use lib.Dec.{eqb}
 use lib.ListN.{length}
 use borrow.Author.Tests.{lt-leb, le-leb, eq-eqb, ne_eqb}
+use Rattle.std.specs.Prelude.{Err}
 use Rattle.lists.specs.Choice.{pick}
 use Rattle.sequence.specs.declared.Sequence.{Sequence}
 use Rattle.sequence.specs.declared.Refusal.TheVariants as R
-use Rattle.sequence.specs.declared.Outcome.TheVariants.{Refused}
 use Rattle.sequence.specs.Limits.{max_terms}
 use Rattle.sequence.specs.Answers.{refused, outcome_answer, first_of}
 use Rattle.sequence.specs.Rules.{fault_of, is_sound, IsSound}
@@ -36,7 +36,7 @@ push_all_told s list e = record { value = e; outcome_value = ap (λ (r : PushedA
   where
     go :
         (a b : Bool) → is_sound (fault_of s) ≡ b
-        → outcome_answer (pick a (pick b (each_of s (terms_in list)) (took zero s (Refused R.Sequence))) (took zero s (Refused R.Buffer))).outcome
+        → outcome_answer (pick a (pick b (each_of s (terms_in list)) (took zero s (Err R.Sequence))) (took zero s (Err R.Buffer))).outcome
         ≡ pick (not a) (refused 5) (pick (not b) (refused 21) (each_answer s (terms_in list)))
     go false b h = refl
     go true false h = refl

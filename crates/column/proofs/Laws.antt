@@ -11,20 +11,20 @@ use lib.ListN.{length, drop, drop_of_length-le}
 use lib.Seq.{drop-cons}
 use lib.Arith.{lt_of_le-ne}
 use borrow.Author.Tests.{eq-eqb, ne_eqb}
+use Rattle.std.specs.Prelude.{Ok, Err}
 use Rattle.lists.proofs.Search.{lt_or_le}
 use Rattle.lists.proofs.Table.{length_tabulate}
 use Rattle.cells.specs.Cell.{cell_at}
 use Rattle.cells.proofs.Laws.{at_cells}
 use Rattle.sequence.specs.declared.Sequence.{Sequence}
 use Rattle.sequence.specs.declared.Refusal.TheVariants as R
-use Rattle.sequence.specs.declared.Outcome.{Outcome}
-use Rattle.sequence.specs.declared.Outcome.TheVariants.{Done, Refused}
 use Rattle.sequence.specs.declared.Pushed.{Pushed}
 use Rattle.sequence.specs.Limits.{max_terms}
 use Rattle.sequence.specs.Rules.{IsSound, fault_of, is_sound, longer, push_of}
 use Rattle.sequence.proofs.Laws.{is_sound_lem, push_done, push_full, push_large, sound_longer}
 use Rattle.column.specs.declared.PushedAll.{PushedAll}
 use Rattle.column.specs.Rules.{terms_in, took, onward, each_of, push_all_of}
+use Rattle.sequence.specs.Answers.{Outcome}
 
 -- ---- one term
 
@@ -36,7 +36,7 @@ later n r = took (n + r.taken) r.sequence r.outcome
 counted : {s : Sequence} {o : Outcome} {n n' : ℕ} → n ≡ n' → took n s o ≡ took n' s o
 counted {s} {o} e = λ i. took (e i) s o
 
-pub each_none : (s : Sequence) → each_of s [] ≡ took zero s Done
+pub each_none : (s : Sequence) → each_of s [] ≡ took zero s (Ok tt)
 unfolding each_of
 each_none s = refl
 
@@ -49,24 +49,24 @@ module _ (s : Sequence) (t : ℕ) (ts : List ℕ) where
   unfolding each_of
   each_push = refl
 
-  pub each_done : IsSound s → s.count < max_terms → t < s.modulus → each_of s (t ∷ ts) ≡ onward Done (longer s t) (each_of (longer s t) ts)
+  pub each_done : IsSound s → s.count < max_terms → t < s.modulus → each_of s (t ∷ ts) ≡ onward (Ok tt) (longer s t) (each_of (longer s t) ts)
   unfolding behind
   each_done sound room small = each_push ∙ ap behind (push_done s t sound room small)
 
-  pub each_full : IsSound s → s.count ≡ max_terms → each_of s (t ∷ ts) ≡ took zero s (Refused R.Full)
+  pub each_full : IsSound s → s.count ≡ max_terms → each_of s (t ∷ ts) ≡ took zero s (Err R.Full)
   unfolding behind
   each_full sound full = each_push ∙ ap behind (push_full s t sound full)
 
-  pub each_large : IsSound s → s.count < max_terms → s.modulus ≤ t → each_of s (t ∷ ts) ≡ took zero s (Refused (R.Term s.count))
+  pub each_large : IsSound s → s.count < max_terms → s.modulus ≤ t → each_of s (t ∷ ts) ≡ took zero s (Err (R.Term s.count))
   unfolding behind
   each_large sound room large = each_push ∙ ap behind (push_large s t sound room large)
 
 -- What holds of each way in which a column may go on holds of the column: P is said of a sound sequence, of the terms and of the reply.
 module _ (P : Sequence → List ℕ → PushedAll → Type 0)
-    (none : (s : Sequence) → IsSound s → P s [] (took zero s Done))
-    (full : (s : Sequence) (t : ℕ) (ts : List ℕ) → IsSound s → s.count ≡ max_terms → P s (t ∷ ts) (took zero s (Refused R.Full)))
-    (large : (s : Sequence) (t : ℕ) (ts : List ℕ) → IsSound s → s.count < max_terms → s.modulus ≤ t → P s (t ∷ ts) (took zero s (Refused (R.Term s.count))))
-    (done : (s : Sequence) (t : ℕ) (ts : List ℕ) (r : PushedAll) → IsSound s → s.count < max_terms → t < s.modulus → P (longer s t) ts r → P s (t ∷ ts) (onward Done (longer s t) r)) where
+    (none : (s : Sequence) → IsSound s → P s [] (took zero s (Ok tt)))
+    (full : (s : Sequence) (t : ℕ) (ts : List ℕ) → IsSound s → s.count ≡ max_terms → P s (t ∷ ts) (took zero s (Err R.Full)))
+    (large : (s : Sequence) (t : ℕ) (ts : List ℕ) → IsSound s → s.count < max_terms → s.modulus ≤ t → P s (t ∷ ts) (took zero s (Err (R.Term s.count))))
+    (done : (s : Sequence) (t : ℕ) (ts : List ℕ) (r : PushedAll) → IsSound s → s.count < max_terms → t < s.modulus → P (longer s t) ts r → P s (t ∷ ts) (onward (Ok tt) (longer s t) r)) where
   pub each_by : (s : Sequence) (ts : List ℕ) → IsSound s → P s ts (each_of s ts)
   each_by s [] h = subst (P s []) (sym (each_none s)) (none s h)
   each_by s (t ∷ ts) h = go (ℕ_discrete s.count max_terms) (lt_or_le t s.modulus) (λ k. each_by (longer s t) ts k)
@@ -83,11 +83,11 @@ module _ (P : Sequence → List ℕ → PushedAll → Type 0)
 -- ---- the whole column
 
 module _ (s : Sequence) (list : List ℕ) where
-  pub column_odd : (length list % 2 ≡ zero → ⊥) → push_all_of s list ≡ took zero s (Refused R.Buffer)
+  pub column_odd : (length list % 2 ≡ zero → ⊥) → push_all_of s list ≡ took zero s (Err R.Buffer)
   unfolding push_all_of
   column_odd h = rw (ne_eqb (length list % 2) 0 h)
 
-  pub column_unsound : length list % 2 ≡ zero → is_sound (fault_of s) ≡ false → push_all_of s list ≡ took zero s (Refused R.Sequence)
+  pub column_unsound : length list % 2 ≡ zero → is_sound (fault_of s) ≡ false → push_all_of s list ≡ took zero s (Err R.Sequence)
   unfolding push_all_of
   column_unsound h k = rw (eq-eqb (length list % 2) 0 h, k)
 
@@ -136,18 +136,18 @@ module _ (list : List ℕ) where
     ends : (o : Outcome) → whole ≡ later i (took zero s o) → took i s o ≡ whole
     ends o h = counted (let q : i ≡ i + 0 = omega arith in q) ∙ sym h
 
-    pub far_full : (n : ℕ) → n ≡ i → i < length list / 2 → s.count ≡ max_terms → took n s (Refused R.Full) ≡ whole
-    far_full n e h full = counted e ∙ ends (Refused R.Full) (left_of _ h refl ∙ ap (later i) (each_full s _ _ f.sound full))
+    pub far_full : (n : ℕ) → n ≡ i → i < length list / 2 → s.count ≡ max_terms → took n s (Err R.Full) ≡ whole
+    far_full n e h full = counted e ∙ ends (Err R.Full) (left_of _ h refl ∙ ap (later i) (each_full s _ _ f.sound full))
 
     pub far_large :
-        (t n k : ℕ) → n ≡ i → k ≡ s.count → i < length list / 2 → t ≡ cell_at list i → s.count < max_terms → s.modulus ≤ t → took n s (Refused (R.Term k)) ≡ whole
+        (t n k : ℕ) → n ≡ i → k ≡ s.count → i < length list / 2 → t ≡ cell_at list i → s.count < max_terms → s.modulus ≤ t → took n s (Err (R.Term k)) ≡ whole
     far_large t n k en ek h e room large =
-        counted en ∙ ap (λ (x : ℕ). took i s (Refused (R.Term x))) ek
-        ∙ ends (Refused (R.Term s.count)) (left_of t h e ∙ ap (later i) (each_large s t _ f.sound room large))
+        counted en ∙ ap (λ (x : ℕ). took i s (Err (R.Term x))) ek
+        ∙ ends (Err (R.Term s.count)) (left_of t h e ∙ ap (later i) (each_large s t _ f.sound room large))
 
-    pub far_all : length list / 2 ≤ i → took i s Done ≡ whole
+    pub far_all : length list / 2 ≤ i → took i s (Ok tt) ≡ whole
     far_all h =
-        ends Done
+        ends (Ok tt)
         (f.left
         ∙ ap (λ (ts : List ℕ). later i (each_of s ts)) (drop_of_length-le (terms_in list) {i = i} (omega (arith, how_many)))
         ∙ ap (later i) (each_none s))

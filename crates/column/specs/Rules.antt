@@ -1,14 +1,12 @@
 -- A column of terms: what pushing its terms singly does, up to the first refused one.
 -- Assumes nothing.
-use Rattle.std.specs.Prelude.{not, List, [], ◌∷◌, ℕ, zero, suc, ◌/◌, ◌%◌, leb, eqb, length}
+use Rattle.std.specs.Prelude.{not, List, [], ◌∷◌, ℕ, zero, suc, ◌/◌, ◌%◌, leb, eqb, length, Ok, Err}
 use Rattle.lists.specs.Choice.{pick}
 use Rattle.cells.specs.Cell.{cells_from}
 use Rattle.sequence.specs.declared.Sequence.{Sequence}
 use Rattle.sequence.specs.declared.Refusal.TheVariants as R
-use Rattle.sequence.specs.declared.Outcome.{Outcome}
-use Rattle.sequence.specs.declared.Outcome.TheVariants.{Done, Refused}
 use Rattle.sequence.specs.Limits.{max_terms}
-use Rattle.sequence.specs.Answers.{Answer, granted, refused, refused_at, first_of}
+use Rattle.sequence.specs.Answers.{Answer, granted, refused, refused_at, first_of, Outcome}
 use Rattle.sequence.specs.Rules.{fault_of, is_sound, longer, push_of}
 use Rattle.column.specs.declared.PushedAll.{PushedAll}
 
@@ -22,20 +20,20 @@ took n s o = record { sequence = s; taken = n; outcome = o }
 
 -- behind a push that left s: one taken and the rest of the column, or its end at a refused term
 abbrev pub onward : Outcome → Sequence → PushedAll → PushedAll
-onward Done s rest = took (suc rest.taken) rest.sequence rest.outcome
-onward (Refused r) s rest = took zero s (Refused r)
+onward (Ok tt) s rest = took (suc rest.taken) rest.sequence rest.outcome
+onward (Err r) s rest = took zero s (Err r)
 
 -- the terms pushed singly, up to the first refused one
 unfoldable pub each_of : Sequence → List ℕ → PushedAll
-each_of s [] = took zero s Done
+each_of s [] = took zero s (Ok tt)
 each_of s (t ∷ ts) = let p = push_of s t in onward p.outcome p.sequence (each_of p.sequence ts)
 
 -- 5 for an odd number of bytes, 21 even for an empty column, in this order; else what single pushes do
 unfoldable pub push_all_of : Sequence → List ℕ → PushedAll
 push_all_of s list =
     pick (eqb (length list % 2) 0)
-    (pick (is_sound (fault_of s)) (each_of s (terms_in list)) (took zero s (Refused R.Sequence)))
-    (took zero s (Refused R.Buffer))
+    (pick (is_sound (fault_of s)) (each_of s (terms_in list)) (took zero s (Err R.Sequence)))
+    (took zero s (Err R.Buffer))
 
 -- the same by number: for each term 22, 3 with the count at that moment
 unfoldable pub each_answer : Sequence → List ℕ → Answer

@@ -6,14 +6,12 @@ use mathlib.Core.List.{List, []}
 use Prim.Native.Nat.{ℕ, ◌^◌}
 use lib.Dec.{eqb, ltb}
 use lib.ListN.{length}
+use Rattle.std.specs.Prelude.{Ok, Err}
 use Rattle.lists.specs.Choice.{pick}
 use Rattle.sequence.specs.declared.Refusal.TheVariants as R
-use Rattle.sequence.specs.declared.Outcome.{Outcome}
-use Rattle.sequence.specs.declared.Outcome.TheVariants.{Done, Refused}
 use Rattle.sequence.specs.Limits.{max_terms, query_bytes}
-use Rattle.sequence.specs.Answers.{granted, refused, outcome_answer, first_of}
+use Rattle.sequence.specs.Answers.{granted, refused, outcome_answer, first_of, Outcome}
 use Rattle.sequence.specs.Rules.{outside}
-use Rattle.enumeration.specs.declared.Counted.TheVariants as C
 use Rattle.enumeration.specs.Rules.{max_sequences, tally_bytes, counted_of, number_in, tally_in, enumerate_of, enumerate_answer, tally_of, tally_answer}
 
 -- the whole promise of each call, as `push_told` (sequence) gives that of a push
@@ -24,13 +22,13 @@ unfolding enumerate_of enumerate_answer counted_of first_of
 enumerate_told m n x query e z =
     record { value = e; query_after = z; result_value = ap outcome_answer e ∙ go (eqb (length query) query_bytes) (outside m) (ltb max_terms n) (ltb max_sequences (m ^ n)) }
   where
-    number : (f : Bool) → outcome_answer (pick f Done (Refused R.Census)) ≡ pick (not f) (refused 33) (granted [])
+    number : (f : Bool) → outcome_answer (pick f (Ok tt) (Err R.Census)) ≡ pick (not f) (refused 33) (granted [])
     number true = refl
     number false = refl
 
     go :
         (a b c d : Bool)
-        → outcome_answer (pick a (number_in (pick b (C.Refused R.Modulus) (pick c (C.Refused R.Count) (pick d (C.Refused R.Census) (C.Sequences (m ^ n))))) x) (Refused R.Buffer))
+        → outcome_answer (pick a (number_in (pick b (Err R.Modulus) (pick c (Err R.Count) (pick d (Err R.Census) (Ok (m ^ n))))) x) (Err R.Buffer))
         ≡ pick (not a) (refused 5) (pick b (refused 1) (pick c (refused 2) (pick d (refused 33) (pick (not (ltb x (m ^ n))) (refused 33) (granted [])))))
     go false b c d = refl
     go true true c d = refl
@@ -47,7 +45,7 @@ tally_told m n cells e z =
   where
     go :
         (a b c d : Bool)
-        → outcome_answer (pick a (tally_in (pick b (C.Refused R.Modulus) (pick c (C.Refused R.Count) (pick d (C.Refused R.Census) (C.Sequences (m ^ n)))))) (Refused R.Buffer))
+        → outcome_answer (pick a (tally_in (pick b (Err R.Modulus) (pick c (Err R.Count) (pick d (Err R.Census) (Ok (m ^ n)))))) (Err R.Buffer))
         ≡ pick (not a) (refused 5) (pick b (refused 1) (pick c (refused 2) (pick d (refused 33) (granted []))))
     go false b c d = refl
     go true true c d = refl

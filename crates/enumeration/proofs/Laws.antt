@@ -10,6 +10,7 @@ use native.Mathlib.Decide.{dec_le}
 use native.Mathlib.Omega.{arith}
 use lib.ListN.{length}
 use borrow.Author.Tests.{lt-ltb, le-ltb, eq-eqb, ne_eqb}
+use Rattle.std.specs.Prelude.{Ok, Err}
 use Rattle.lists.specs.Table.{at, tabulate}
 use Rattle.lists.proofs.Search.{lt_or_le}
 use Rattle.lists.proofs.Table.{at_tabulate}
@@ -22,13 +23,10 @@ use Rattle.counting.proofs.Numbering.{list_at_length, list_at_below}
 use Rattle.steps.specs.Run.{Below}
 use Rattle.sequence.specs.declared.Refusal.{Refusal}
 use Rattle.sequence.specs.declared.Refusal.TheVariants as R
-use Rattle.sequence.specs.declared.Outcome.TheVariants.{Done, Refused}
 use Rattle.sequence.specs.Limits.{max_modulus, max_terms, query_bytes}
 use Rattle.sequence.specs.Rules.{outside}
 use Rattle.sequence.proofs.Laws.{inside}
-use Rattle.enumeration.specs.declared.Counted.{Counted}
-use Rattle.enumeration.specs.declared.Counted.TheVariants as C
-use Rattle.enumeration.specs.Rules.{max_sequences, lengths, tally_bytes, counted_of, number_in, tally_in, enumerate_of, query_numbered, tally_of}
+use Rattle.enumeration.specs.Rules.{max_sequences, lengths, tally_bytes, counted_of, number_in, tally_in, enumerate_of, query_numbered, tally_of, Counted}
 
 -- ---- the power
 
@@ -71,10 +69,10 @@ legal m n least most small =
 
 -- they are refused by r, or k sequences are counted
 abbrev pub RefusedBy : ℕ → ℕ → Refusal → Type 0
-RefusedBy m n r = counted_of m n ≡ C.Refused r
+RefusedBy m n r = counted_of m n ≡ Err r
 
 abbrev pub CountedAs : ℕ → ℕ → ℕ → Type 0
-CountedAs m n k = counted_of m n ≡ C.Sequences k
+CountedAs m n k = counted_of m n ≡ Ok k
 
 module _ (m n : ℕ) where
   pub counted_modulus : outside m ≡ true → RefusedBy m n R.Modulus
@@ -93,10 +91,10 @@ module _ (m n : ℕ) where
   unfolding counted_of
   counted_fits {k} h =
       rw (le-ltb m 2 h.least, le-ltb max_modulus m h.most, le-ltb max_terms n h.count, le-ltb max_sequences (m ^ n) (omega (arith, h.power, h.small)))
-      (ap C.Sequences (sym h.power))
+      (ap Ok (sym h.power))
 
   -- the power cut above the limit tells
-  pub counted_power : 2 ≤ m → m ≤ max_modulus → {k : ℕ} → k ≡ min (m ^ n) (suc max_sequences) → k ≤ max_sequences → C.Sequences k ≡ counted_of m n
+  pub counted_power : 2 ≤ m → m ≤ max_modulus → {k : ℕ} → k ≡ min (m ^ n) (suc max_sequences) → k ≤ max_sequences → Ok k ≡ counted_of m n
   counted_power a b {k} e h =
       let power : k ≡ m ^ n = omega arith in
       sym (counted_fits (subst (Legal m n) (sym power) (legal m n a b (omega arith))))
@@ -123,8 +121,8 @@ module _ (m n : ℕ) where
     where
       -- how many are said, if any
       said : Counted → ℕ
-      said (C.Sequences x) = suc x
-      said (C.Refused r) = zero
+      said (Ok x) = suc x
+      said (Err r) = zero
 
       refused : {r : Refusal} → RefusedBy m n r → ⊥
       refused h = let z : zero ≡ suc k = ap said (sym h ∙ e) in omega arith
@@ -137,14 +135,14 @@ module _ (m n : ℕ) where
 
 -- ---- the replies
 
-pub number_refused : (k x : ℕ) → k ≤ x → Refused R.Census ≡ number_in (C.Sequences k) x
+pub number_refused : (k x : ℕ) → k ≤ x → Err R.Census ≡ number_in (Ok k) x
 number_refused k x h = rw (le-ltb x k h)
 
-pub number_taken : (k x : ℕ) → x < k → Done ≡ number_in (C.Sequences k) x
+pub number_taken : (k x : ℕ) → x < k → (Ok tt) ≡ number_in (Ok k) x
 number_taken k x h = rw (lt-ltb x k h)
 
 module _ (m n : ℕ) where
-  pub enumerate_buffer : (x : ℕ) (query : List ℕ) → (length query ≡ query_bytes → ⊥) → enumerate_of m n x query ≡ Refused R.Buffer
+  pub enumerate_buffer : (x : ℕ) (query : List ℕ) → (length query ≡ query_bytes → ⊥) → enumerate_of m n x query ≡ Err R.Buffer
   unfolding enumerate_of
   enumerate_buffer x query h = rw (ne_eqb (length query) query_bytes h)
 
@@ -152,16 +150,16 @@ module _ (m n : ℕ) where
   unfolding enumerate_of
   enumerate_counted x query h e = rw (eq-eqb (length query) query_bytes h) (ap (λ (z : Counted). number_in z x) e)
 
-  pub enumerate_refused : (x : ℕ) (query : List ℕ) {r : Refusal} → length query ≡ query_bytes → RefusedBy m n r → enumerate_of m n x query ≡ Refused r
+  pub enumerate_refused : (x : ℕ) (query : List ℕ) {r : Refusal} → length query ≡ query_bytes → RefusedBy m n r → enumerate_of m n x query ≡ Err r
   enumerate_refused x query h e = enumerate_counted x query h e
 
-  pub enumerate_large : (x : ℕ) (query : List ℕ) {k : ℕ} → length query ≡ query_bytes → CountedAs m n k → k ≤ x → enumerate_of m n x query ≡ Refused R.Census
+  pub enumerate_large : (x : ℕ) (query : List ℕ) {k : ℕ} → length query ≡ query_bytes → CountedAs m n k → k ≤ x → enumerate_of m n x query ≡ Err R.Census
   enumerate_large x query {k} h e b = enumerate_counted x query h e ∙ sym (number_refused k x b)
 
-  pub enumerate_done : (x : ℕ) (query : List ℕ) {k : ℕ} → length query ≡ query_bytes → CountedAs m n k → x < k → enumerate_of m n x query ≡ Done
+  pub enumerate_done : (x : ℕ) (query : List ℕ) {k : ℕ} → length query ≡ query_bytes → CountedAs m n k → x < k → enumerate_of m n x query ≡ Ok tt
   enumerate_done x query {k} h e b = enumerate_counted x query h e ∙ sym (number_taken k x b)
 
-  pub tally_buffer : (cells : List ℕ) → (length cells ≡ tally_bytes → ⊥) → tally_of m n cells ≡ Refused R.Buffer
+  pub tally_buffer : (cells : List ℕ) → (length cells ≡ tally_bytes → ⊥) → tally_of m n cells ≡ Err R.Buffer
   unfolding tally_of
   tally_buffer cells h = rw (ne_eqb (length cells) tally_bytes h)
 
@@ -169,10 +167,10 @@ module _ (m n : ℕ) where
   unfolding tally_of
   tally_counted cells h e = rw (eq-eqb (length cells) tally_bytes h) (ap tally_in e)
 
-  pub tally_refused : (cells : List ℕ) {r : Refusal} → length cells ≡ tally_bytes → RefusedBy m n r → tally_of m n cells ≡ Refused r
+  pub tally_refused : (cells : List ℕ) {r : Refusal} → length cells ≡ tally_bytes → RefusedBy m n r → tally_of m n cells ≡ Err r
   tally_refused cells h e = tally_counted cells h e
 
-  pub tally_done : (cells : List ℕ) {k : ℕ} → length cells ≡ tally_bytes → CountedAs m n k → tally_of m n cells ≡ Done
+  pub tally_done : (cells : List ℕ) {k : ℕ} → length cells ≡ tally_bytes → CountedAs m n k → tally_of m n cells ≡ Ok tt
   tally_done cells h e = tally_counted cells h e
 
 -- ---- the sequence with a number

@@ -1,19 +1,15 @@
 -- The sequences of n terms modulo m: what is replied to the number of one, and to how many of them have each length.
 -- Assumes nothing.
-use Rattle.std.specs.Prelude.{Bool, not, List, [], ◌∷◌, ℕ, ◌^◌, eqb, ltb, length}
+use Rattle.std.specs.Prelude.{Bool, not, List, [], ◌∷◌, ℕ, ◌^◌, eqb, ltb, length, Ok, Err}
 use Rattle.lists.specs.Choice.{pick}
 use Rattle.lists.specs.Table.{tabulate}
 use Rattle.cells.specs.Cell.{bytes_of}
 use Rattle.counting.specs.Numbering.{list_at}
 use Rattle.counting.specs.Lengths.{with_length}
 use Rattle.sequence.specs.declared.Refusal.TheVariants as R
-use Rattle.sequence.specs.declared.Outcome.{Outcome}
-use Rattle.sequence.specs.declared.Outcome.TheVariants.{Done, Refused}
 use Rattle.sequence.specs.Limits.{max_terms, query_bytes}
-use Rattle.sequence.specs.Answers.{Answer, granted, refused, first_of}
+use Rattle.sequence.specs.Answers.{Answer, granted, refused, first_of, Outcome}
 use Rattle.sequence.specs.Rules.{outside, query_of}
-use Rattle.enumeration.specs.declared.Counted.{Counted}
-use Rattle.enumeration.specs.declared.Counted.TheVariants as C
 
 -- no more sequences are counted than these, whatever the largest modulus is
 abbrev pub max_sequences : ℕ
@@ -32,25 +28,25 @@ tally_bytes = 26
 -- how many sequences of n terms modulo m there are; 1, 2, 33, in this order, outside the limits
 unfoldable pub counted_of : ℕ → ℕ → Counted
 counted_of m n =
-    pick (outside m) (C.Refused R.Modulus)
-    (pick (ltb max_terms n) (C.Refused R.Count)
-    (pick (ltb max_sequences (m ^ n)) (C.Refused R.Census) (C.Sequences (m ^ n))))
+    pick (outside m) (Err R.Modulus)
+    (pick (ltb max_terms n) (Err R.Count)
+    (pick (ltb max_sequences (m ^ n)) (Err R.Census) (Ok (m ^ n))))
 
 -- 33 where the number x is not below their number
 abbrev pub number_in : Counted → ℕ → Outcome
-number_in (C.Sequences k) x = pick (ltb x k) Done (Refused R.Census)
-number_in (C.Refused r) x = Refused r
+number_in (Ok k) x = pick (ltb x k) (Ok tt) (Err R.Census)
+number_in (Err r) x = Err r
 
 abbrev pub tally_in : Counted → Outcome
-tally_in (C.Sequences k) = Done
-tally_in (C.Refused r) = Refused r
+tally_in (Ok k) = Ok tt
+tally_in (Err r) = Err r
 
 -- 5 for the buffer comes before them
 unfoldable pub enumerate_of : ℕ → ℕ → ℕ → List ℕ → Outcome
-enumerate_of m n x query = pick (eqb (length query) query_bytes) (number_in (counted_of m n) x) (Refused R.Buffer)
+enumerate_of m n x query = pick (eqb (length query) query_bytes) (number_in (counted_of m n) x) (Err R.Buffer)
 
 unfoldable pub tally_of : ℕ → ℕ → List ℕ → Outcome
-tally_of m n cells = pick (eqb (length cells) tally_bytes) (tally_in (counted_of m n)) (Refused R.Buffer)
+tally_of m n cells = pick (eqb (length cells) tally_bytes) (tally_in (counted_of m n)) (Err R.Buffer)
 
 -- the same by number: what both calls refuse of m and n, then a number that is not below m^n
 abbrev pub census_refusals : Bool → ℕ → ℕ → List (Bool × Answer) → List (Bool × Answer)

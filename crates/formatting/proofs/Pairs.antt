@@ -10,6 +10,7 @@ use lib.Dec.{eqb, ltb, leb}
 use lib.ListN.{length, take, drop, length-append, length-drop, drop_of_length-le, get_or-append}
 use lib.Seq.{drop-cons, take_all, take_at, drop-append-add, get_or-append_seam}
 use borrow.Author.Tests.{lt-ltb, le-ltb, eq-eqb, ne_eqb, leb-true}
+use Rattle.std.specs.Prelude.{Option, Some, None}
 use Rattle.lists.specs.Choice.{both}
 use Rattle.lists.specs.Table.{at}
 use Rattle.lists.specs.Search.{every}
@@ -17,10 +18,6 @@ use Rattle.lists.proofs.Choice.{picked, passed}
 use Rattle.lists.proofs.Search.{is_first, both_left, both_true, every_head, every_tail}
 use Rattle.lines.specs.Form.{is_digit, decimal}
 use Rattle.lines.proofs.Numbers.{behind, behind_zero, behind_le}
-use Rattle.formatting.specs.declared.Number.{Number}
-use Rattle.formatting.specs.declared.Number.TheVariants.{Value, NoNumber}
-use Rattle.formatting.specs.declared.Pair.{Pair}
-use Rattle.formatting.specs.declared.Pair.TheVariants.{Numbers, NoPair}
 use Rattle.formatting.specs.Text.{numeral}
 use Rattle.formatting.specs.Census.{census_line, number_limit, is_number, number_of, blank_in, pair_of, pair_in, answer_of, pair_line}
 use Rattle.formatting.proofs.Reading.{numeral_some, numeral_digits, numeral_value}
@@ -28,25 +25,25 @@ use Rattle.formatting.proofs.Reading.{numeral_some, numeral_digits, numeral_valu
 -- ---- numbers
 
 module _ (bs : List ℕ) where
-  no_number : is_number bs ≡ false → NoNumber ≡ number_of bs
+  no_number : is_number bs ≡ false → None ≡ number_of bs
   unfolding number_of
   no_number e = sym (passed _ _ e)
 
-  a_number : zero < length bs → every is_digit bs ≡ true → decimal bs < number_limit → number_of bs ≡ Value (decimal bs)
+  a_number : zero < length bs → every is_digit bs ≡ true → decimal bs < number_limit → number_of bs ≡ Some (decimal bs)
   unfolding number_of
   a_number h k l = picked _ _ (both_true (lt-ltb 0 (length bs) h) (both_true k (lt-ltb (decimal bs) number_limit l)))
 
-  pub no_digits : length bs ≡ zero → NoNumber ≡ number_of bs
+  pub no_digits : length bs ≡ zero → None ≡ number_of bs
   no_digits e = no_number (rw (le-ltb 0 (length bs) (omega (arith, e))))
 
-  not_digits : every is_digit bs ≡ false → NoNumber ≡ number_of bs
+  not_digits : every is_digit bs ≡ false → None ≡ number_of bs
   not_digits e = no_number (go (ltb 0 (length bs)))
     where
       go : (t : Bool) → both t (both (every is_digit bs) (ltb (decimal bs) number_limit)) ≡ false
       go true = rw e
       go false = refl
 
-  too_large : number_limit ≤ decimal bs → NoNumber ≡ number_of bs
+  too_large : number_limit ≤ decimal bs → None ≡ number_of bs
   too_large h = no_number (go (ltb 0 (length bs)) (every is_digit bs))
     where
       go : (t u : Bool) → both t (both u (ltb (decimal bs) number_limit)) ≡ false
@@ -70,7 +67,7 @@ module _ {bs : List ℕ} {v i : ℕ} (x : Valued bs v i) where
     next : drop i bs ≡ b ∷ drop (i + 1) bs
     next = drop-cons bs i 0 h ∙ ap₂ (λ (y k : ℕ). y ∷ drop k bs) (sym is) (sym (add-one i))
 
-    pub valued_broken : is_digit b ≡ false → NoNumber ≡ number_of bs
+    pub valued_broken : is_digit b ≡ false → None ≡ number_of bs
     unfolding every
     valued_broken e = not_digits bs (x.digits ∙ ap (every is_digit) next ∙ rw (e, every))
 
@@ -80,7 +77,7 @@ module _ {bs : List ℕ} {v i : ℕ} (x : Valued bs v i) where
       unfolding behind
       value_next = x.value ∙ ap (behind v) next ∙ ap (λ (y : ℕ). behind y (drop (i + 1) bs)) (sym f)
 
-      pub valued_past : number_limit ≤ w → NoNumber ≡ number_of bs
+      pub valued_past : number_limit ≤ w → None ≡ number_of bs
       valued_past l = too_large bs (omega (arith, value_next, behind_le w (drop (i + 1) bs)))
 
       pub valued_next : w < number_limit → Valued bs w (i + 1)
@@ -93,42 +90,42 @@ module _ {bs : List ℕ} {v i : ℕ} (x : Valued bs v i) where
             value = value_next;
           }
 
-  pub valued_all : zero < length bs → length bs ≤ i → Value v ≡ number_of bs
+  pub valued_all : zero < length bs → length bs ≤ i → Some v ≡ number_of bs
   unfolding every behind
   valued_all some h =
       let end = drop_of_length-le bs h in
       let is : decimal bs ≡ v = x.value ∙ ap (behind v) end in
-      ap Value (sym is) ∙ sym (a_number bs some (x.digits ∙ ap (every is_digit) end) (omega (arith, is, x.small)))
+      ap Some (sym is) ∙ sym (a_number bs some (x.digits ∙ ap (every is_digit) end) (omega (arith, is, x.small)))
 
 -- ---- pairs
 
 -- no number stands behind a blank that is not there
-pub pair_none : (line : List ℕ) {k : ℕ} → k ≡ blank_in line → length line ≤ k → NoPair ≡ pair_in line
+pub pair_none : (line : List ℕ) {k : ℕ} → k ≡ blank_in line → length line ≤ k → None ≡ pair_in line
 unfolding pair_in
 pair_none line {k} e h =
-    sym (ap (λ (y : Number). pair_of (number_of (take (blank_in line) line)) y) none ∙ go (number_of (take (blank_in line) line)))
+    sym (ap (λ (y : Option ℕ). pair_of (number_of (take (blank_in line) line)) y) none ∙ go (number_of (take (blank_in line) line)))
   where
     rest : drop (suc (blank_in line)) line ≡ []
     rest = drop_of_length-le line {i = suc (blank_in line)} (omega (arith, e))
 
-    none : number_of (drop (suc (blank_in line)) line) ≡ NoNumber
+    none : number_of (drop (suc (blank_in line)) line) ≡ None
     none = ap number_of rest ∙ sym (no_digits [] refl)
 
-    go : (y : Number) → pair_of y NoNumber ≡ NoPair
-    go (Value m) = refl
-    go NoNumber = refl
+    go : (y : Option ℕ) → pair_of y None ≡ None
+    go (Some m) = refl
+    go None = refl
 
 -- a part of a line up to its end
 pub part_all : (line : List ℕ) (k : ℕ) → take (length line - k) (drop k line) ≡ drop k line
 part_all line k = take_all (length line - k) (drop k line) (omega (arith, length-drop k line))
 
-pub pair_read : (line : List ℕ) {k : ℕ} {y z : Number} → k ≡ blank_in line → y ≡ number_of (take k line) → z ≡ number_of (drop (k + 1) line) → pair_of y z ≡ pair_in line
+pub pair_read : (line : List ℕ) {k : ℕ} {y z : (Option ℕ)} → k ≡ blank_in line → y ≡ number_of (take k line) → z ≡ number_of (drop (k + 1) line) → pair_of y z ≡ pair_in line
 unfolding pair_in
 pair_read line {k} {y} {z} e f g =
     ap₂ pair_of (f ∙ ap (λ (j : ℕ). number_of (take j line)) e)
     (g ∙ ap (λ (j : ℕ). number_of (drop j line)) (add-one k ∙ ap suc e))
 
-pub answer_told : (line : List ℕ) {p : Pair} → pair_in line ≡ p → answer_of p ≡ pair_line line
+pub answer_told : (line : List ℕ) {p : (Option (ℕ × ℕ))} → pair_in line ≡ p → answer_of p ≡ pair_line line
 unfolding pair_line
 answer_told line e = sym (ap answer_of e)
 
@@ -139,12 +136,12 @@ every_at [] i h l = absurd (omega (arith, l))
 every_at (b ∷ bs) zero h l = every_head is_digit b bs h
 every_at (b ∷ bs) (suc i) h l = every_at bs i (every_tail is_digit b bs h) (omega (arith, l))
 
-numeral_number : (n : ℕ) → n < number_limit → number_of (numeral n) ≡ Value n
+numeral_number : (n : ℕ) → n < number_limit → number_of (numeral n) ≡ Some n
 numeral_number n h =
-    a_number (numeral n) (numeral_some n) (numeral_digits n) (omega (arith, numeral_value n)) ∙ ap Value (numeral_value n)
+    a_number (numeral n) (numeral_some n) (numeral_digits n) (omega (arith, numeral_value n)) ∙ ap Some (numeral_value n)
 
 -- two numbers with a blank between them are read as they are
-pub pair_printed : (m n : ℕ) → m < number_limit → n < number_limit → pair_in (numeral m ++ 32 ∷ numeral n) ≡ Numbers m n
+pub pair_printed : (m n : ℕ) → m < number_limit → n < number_limit → pair_in (numeral m ++ 32 ∷ numeral n) ≡ Some (m, n)
 unfolding blank_in
 pair_printed m n h k =
     sym (pair_read line place (sym (ap number_of before ∙ numeral_number m h)) (sym (ap number_of rest ∙ numeral_number n k)))

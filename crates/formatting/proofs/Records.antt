@@ -7,6 +7,7 @@ use native.Mathlib.Omega.{arith}
 use lib.ListN.{length, take, drop}
 use lib.Seq.{get_or-take}
 use borrow.Author.Tests.{eq-eqb}
+use Rattle.std.specs.Prelude.{Ok, Err}
 use Rattle.lists.specs.Table.{at}
 use Rattle.lists.proofs.Table.{at_tabulate_all}
 use Rattle.cells.specs.Cell.{cell_at}
@@ -14,8 +15,6 @@ use Rattle.cells.proofs.Laws.{cells_back}
 use Rattle.recurrence.proofs.Register.{Right, register_right}
 use Rattle.sequence.specs.declared.Sequence.{Sequence}
 use Rattle.sequence.specs.declared.Refusal.{Refusal}
-use Rattle.sequence.specs.declared.Outcome.{Outcome}
-use Rattle.sequence.specs.declared.Outcome.TheVariants.{Done, Refused}
 use Rattle.sequence.specs.Limits.{query_bytes, a_bytes, max_cells}
 use Rattle.sequence.specs.Rules.{sequence_of, check_of, IsSound}
 use Rattle.sequence.specs.Report.{register_of, a_buffer, filled}
@@ -28,6 +27,7 @@ use Rattle.catalogue.proofs.Refusals.{synthesize_query}
 use Rattle.catalogue.proofs.Places.{entry_query, entry_a, entry_length_cell, made_body}
 use Rattle.formatting.specs.Listing.{register_line, record_line, refusal_line, line_of, query_line, answer_line, typed_line}
 use Rattle.formatting.proofs.Wording.{line_same}
+use Rattle.sequence.specs.Answers.{Outcome}
 
 module _ (s : Sequence) (sound : IsSound s) where
   right : Right s.modulus s.terms s.count (register_of s)
@@ -45,7 +45,7 @@ head_cell entry query i e h = sym (ap (λ (x : List ℕ). cell_at x i) (sym e)
     ∙ ap₂ (λ (x y : ℕ). x + 256 * y) (get_or-take query_bytes entry (2 * i) 0 (omega arith)) (get_or-take query_bytes entry (2 * i + 1) 0 h))
 
 -- a record with the body of the one made of a query, whatever its accession number
-module _ (query : List ℕ) (fine : check_of query ≡ Done) (entry : List ℕ) (same : body entry ≡ layout query (sequence_of query)) where
+module _ (query : List ℕ) (fine : check_of query ≡ Ok tt) (entry : List ℕ) (same : body entry ≡ layout query (sequence_of query)) where
   size : length query ≡ query_bytes
   size = (check_done query fine).0
 
@@ -72,15 +72,15 @@ module _ (query : List ℕ) (fine : check_of query ≡ Done) (entry : List ℕ) 
       front = entry_query query (sequence_of query) size entry same
 
 module _ (query out : List ℕ) (size : length out ≡ record_bytes) where
-  pub query_refused : {r : Refusal} → synthesize_of query out ≡ Refused r → refusal_line r ≡ query_line query
+  pub query_refused : {r : Refusal} → synthesize_of query out ≡ Err r → refusal_line r ≡ query_line query
   unfolding query_line
   query_refused h = sym (ap (λ (o : Outcome). line_of o (sequence_of query)) (sym (synthesize_query query out size) ∙ h))
 
-  pub query_made : (entry : List ℕ) {o : Outcome} → entry ≡ filled o (record_of query) out → o ≡ synthesize_of query out → o ≡ Done → record_line entry ≡ query_line query
+  pub query_made : (entry : List ℕ) {o : Outcome} → entry ≡ filled o (record_of query) out → o ≡ synthesize_of query out → o ≡ Ok tt → record_line entry ≡ query_line query
   query_made entry {o} e f d =
       line_made query fine entry (ap body (e ∙ ap (λ (x : Outcome). filled x (record_of query) out) d) ∙ made_body query (check_done query fine).0)
     where
-      fine : check_of query ≡ Done
+      fine : check_of query ≡ Ok tt
       fine = sym (synthesize_query query out size) ∙ sym f ∙ d
 
 -- ---- a typed line, read into a query buffer
@@ -90,11 +90,11 @@ module _ (line lent : List ℕ) (size : length lent ≡ query_bytes) where
   unfolding read_of
   replied = rw (eq-eqb (length lent) query_bytes size)
 
-  pub typed_refused : {r : Refusal} → read_of line lent ≡ Refused r → refusal_line r ≡ typed_line line
+  pub typed_refused : {r : Refusal} → read_of line lent ≡ Err r → refusal_line r ≡ typed_line line
   unfolding typed_line
   typed_refused h = sym (ap (λ (o : Outcome). answer_line o (found_in line)) (sym replied ∙ h))
 
-  pub typed_read : (query : List ℕ) {o : Outcome} → query ≡ filled o (query_in (found_in line)) lent → o ≡ read_of line lent → o ≡ Done → query_line query ≡ typed_line line
+  pub typed_read : (query : List ℕ) {o : Outcome} → query ≡ filled o (query_in (found_in line)) lent → o ≡ read_of line lent → o ≡ Ok tt → query_line query ≡ typed_line line
   unfolding typed_line
   typed_read query {o} e f d =
       ap query_line (e ∙ ap (λ (x : Outcome). filled x (query_in (found_in line)) lent) d)

@@ -5,12 +5,11 @@ use mathlib.Core.List.{List, [], ◌∷◌, ◌++◌}
 use Prim.Native.Nat.{ℕ, suc, ◌<◌}
 use lib.ListN.{length}
 use borrow.Author.Tests.{eq-eqb}
+use Rattle.std.specs.Prelude.{Ok, Err}
 use Rattle.lists.specs.Table.{tabulate}
 use Rattle.lists.specs.Text.{bytes}
 use Rattle.cells.specs.Cell.{cell_at}
 use Rattle.sequence.specs.declared.Refusal.{Refusal}
-use Rattle.sequence.specs.declared.Outcome.{Outcome}
-use Rattle.sequence.specs.declared.Outcome.TheVariants.{Done, Refused}
 use Rattle.sequence.specs.Report.{filled}
 use Rattle.sequence.proofs.Laws.{refused_done}
 use Rattle.enumeration.specs.Rules.{lengths, tally_bytes, counted_of, tally_in, tally_of, tally_cells}
@@ -19,6 +18,7 @@ use Rattle.formatting.specs.Text.{separated, Put}
 use Rattle.formatting.specs.Listing.{refusal_line}
 use Rattle.formatting.specs.Census.{tally_line, tallied_line, census_line}
 use Rattle.formatting.proofs.Putting.{put_as}
+use Rattle.sequence.specs.Answers.{Outcome}
 
 -- the cells that are put are those of the lengths 0 to n
 pub cells_told : {out out' : List ℕ} {k r : ℕ} (m n size : ℕ) (cells : List ℕ)
@@ -34,21 +34,21 @@ module _ (m n : ℕ) (lent : List ℕ) (size : length lent ≡ tally_bytes) wher
   unfolding tally_of
   replied = rw (eq-eqb (length lent) tally_bytes size)
 
-  pub line_refused : {r : Refusal} → tally_of m n lent ≡ Refused r → refusal_line r ≡ census_line m n
+  pub line_refused : {r : Refusal} → tally_of m n lent ≡ Err r → refusal_line r ≡ census_line m n
   unfolding census_line
   line_refused h = sym (ap (λ (o : Outcome). tallied_line o m n) (sym replied ∙ h))
 
-  pub line_made : (cells : List ℕ) {o : Outcome} → cells ≡ filled o (tally_cells m n) lent → o ≡ tally_of m n lent → o ≡ Done → tally_line m n cells ≡ census_line m n
+  pub line_made : (cells : List ℕ) {o : Outcome} → cells ≡ filled o (tally_cells m n) lent → o ≡ tally_of m n lent → o ≡ Ok tt → tally_line m n cells ≡ census_line m n
   unfolding census_line
   line_made cells {o} e f d =
       ap (tally_line m n) (e ∙ ap (λ (x : Outcome). filled x (tally_cells m n) lent) d)
       ∙ sym (ap (λ (x : Outcome). tallied_line x m n) (sym replied ∙ sym f ∙ d))
 
   -- where it is not refused, each length has its cell
-  pub line_few : {o : Outcome} → o ≡ tally_of m n lent → o ≡ Done → n < lengths
+  pub line_few : {o : Outcome} → o ≡ tally_of m n lent → o ≡ Ok tt → n < lengths
   line_few f d = go (counting m n)
     where
-      done : tally_in (counted_of m n) ≡ Done
+      done : tally_in (counted_of m n) ≡ Ok tt
       done = sym replied ∙ sym f ∙ d
 
       go : Count m n → n < lengths

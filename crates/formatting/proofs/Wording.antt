@@ -4,6 +4,7 @@ use mathlib.Core.Path.{◌≡◌, refl, sym, ap, ap₂, ◌∙◌}
 use mathlib.Core.List.{List, [], ◌∷◌, ◌++◌}
 use Prim.Native.Nat.{ℕ, suc}
 use native.Mathlib.Omega.{arith}
+use Rattle.std.specs.Prelude.{Option}
 use Rattle.lists.specs.Table.{at, tabulate}
 use Rattle.lists.specs.Text.{bytes}
 use Rattle.lists.proofs.Table.{tabulate_eq}
@@ -12,7 +13,6 @@ use Rattle.cells.proofs.Laws.{at_cells}
 use Rattle.recurrence.specs.Polynomial.{degree}
 use Rattle.recurrence.proofs.Polynomial.{degree_same}
 use Rattle.sequence.specs.declared.Refusal.{Refusal}
-use Rattle.sequence.specs.declared.Place.{Place}
 use Rattle.sequence.specs.Limits.{max_cells}
 use Rattle.sequence.specs.Answers.{refusal, placed}
 use Rattle.candidate.specs.Rules.{a_cells}
@@ -34,7 +34,7 @@ register_told_lem m n order count l a p e f =
         ap (λ (c : ℕ). tabulate c (cell_at a)) f
         ∙ tabulate_eq (suc (degree (a_cells a))) (cell_at a) (at (a_cells a)) (λ i h. sym (at_cells a max_cells i (omega (arith, degree_cells a))))
 
-pub refusal_pieces : (r : Refusal) (n : ℕ) (p : Place) → n ≡ (refusal r).number → placed p ≡ (refusal r).values
+pub refusal_pieces : (r : Refusal) (n : ℕ) (p : Option ℕ) → n ≡ (refusal r).number → placed p ≡ (refusal r).values
     → bytes "refused " ++ numeral n ++ place_text (placed p) ≡ refusal_text r
 unfolding refusal_text
 refusal_pieces r n p e f = ap₂ (λ (x : ℕ) (ys : List ℕ). bytes "refused " ++ numeral x ++ place_text ys) e f

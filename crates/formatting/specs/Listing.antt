@@ -1,21 +1,17 @@
 -- The listing as bytes: its first line, and the lines of queries, of registers that are reported and of typed lines; and whether a register is the only
 -- one, as a line of a working.
 -- Assumes nothing.
-use Rattle.std.specs.Prelude.{List, [], ◌∷◌, ◌++◌, ℕ, suc, take, drop}
+use Rattle.std.specs.Prelude.{List, [], ◌∷◌, ◌++◌, ℕ, suc, take, drop, Ok, Err}
 use Rattle.lists.specs.Table.{at, tabulate}
 use Rattle.lists.specs.Text.{bytes}
 use Rattle.cells.specs.Cell.{cell_at}
 use Rattle.recurrence.specs.Polynomial.{degree}
 use Rattle.sequence.specs.declared.Sequence.{Sequence}
 use Rattle.sequence.specs.declared.Refusal.{Refusal}
-use Rattle.sequence.specs.declared.Outcome.{Outcome}
-use Rattle.sequence.specs.declared.Outcome.TheVariants as O
 use Rattle.sequence.specs.declared.Uniqueness.{Uniqueness}
 use Rattle.sequence.specs.declared.Uniqueness.TheVariants as U
-use Rattle.sequence.specs.declared.Reported.{Reported}
-use Rattle.sequence.specs.declared.Reported.TheVariants as P
 use Rattle.sequence.specs.Limits.{a_bytes}
-use Rattle.sequence.specs.Answers.{refusal}
+use Rattle.sequence.specs.Answers.{refusal, Outcome, Reported, of_length}
 use Rattle.sequence.specs.Rules.{sequence_of, check_of}
 use Rattle.sequence.specs.Report.{register_of}
 use Rattle.lines.specs.Reading.{Found, found_in}
@@ -57,16 +53,16 @@ refusal_line r = refusal_text r ++ bytes "\n"
 
 -- the line of a query with this outcome of its checks: its refusal, or the line of its register
 abbrev pub line_of : Outcome → Sequence → List ℕ
-line_of O.Done s = register_line s.modulus s.count (register_of s).length (register_of s).a
-line_of (O.Refused r) s = refusal_line r
+line_of (Ok tt) s = register_line s.modulus s.count (register_of s).length (register_of s).a
+line_of (Err r) s = refusal_line r
 
 unfoldable pub query_line : List ℕ → List ℕ
 query_line query = line_of (check_of query) (sequence_of query)
 
 -- the line of a register that is reported for a sequence: by the length replied and the cells of a
 abbrev pub reported_line : Sequence → Reported → List ℕ → List ℕ
-reported_line s (P.Length l w) a = register_line s.modulus s.count l (a_cells a)
-reported_line s (P.Refused r) a = refusal_line r
+reported_line s (of_length l w) a = register_line s.modulus s.count l (a_cells a)
+reported_line s (Err r) a = refusal_line r
 
 -- whether a register is the only one, in words
 abbrev pub uniqueness_text : Uniqueness → List ℕ
@@ -76,13 +72,13 @@ uniqueness_text U.NotTold = bytes "not told"
 
 -- the line below that of a register that is reported, in a working; none below a refusal
 abbrev pub uniqueness_line : Reported → List ℕ
-uniqueness_line (P.Length l w) = uniqueness_text w ++ bytes "\n"
-uniqueness_line (P.Refused r) = []
+uniqueness_line (of_length l w) = uniqueness_text w ++ bytes "\n"
+uniqueness_line (Err r) = []
 
 -- the line that answers a typed line: its refusal, or the line of the query that it becomes
 abbrev pub answer_line : Outcome → Found → List ℕ
-answer_line O.Done found = query_line (query_in found)
-answer_line (O.Refused r) found = refusal_line r
+answer_line (Ok tt) found = query_line (query_in found)
+answer_line (Err r) found = refusal_line r
 
 unfoldable pub typed_line : List ℕ → List ℕ
 typed_line line = answer_line (reply_of (found_in line)) (found_in line)

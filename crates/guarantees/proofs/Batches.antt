@@ -9,16 +9,13 @@ use native.Mathlib.Omega.{arith}
 use lib.Dec.{ltb, eqb}
 use lib.ListN.{length}
 use borrow.Author.Tests.{lt-ltb, le-ltb, eq-eqb, ne_eqb, ltb-true, ltb-false, eqb-true}
+use Rattle.std.specs.Prelude.{Some, None, Ok, Err}
 use Rattle.lists.proofs.Search.{both_true, false_true}
 use Rattle.lists.specs.Table.{at, tabulate}
 use Rattle.cells.specs.Cell.{cell_at}
 use Rattle.sequence.specs.declared.Refusal.{Refusal}
-use Rattle.sequence.specs.declared.Outcome.{Outcome}
-use Rattle.sequence.specs.declared.Outcome.TheVariants.{Done, Refused}
 use Rattle.sequence.specs.Rules.{check_of}
-use Rattle.catalogue.specs.declared.LookedUp.{LookedUp}
-use Rattle.catalogue.specs.declared.LookedUp.TheVariants as S
-use Rattle.catalogue.specs.Rules.{record_bytes, body, record_at, look_up_of}
+use Rattle.catalogue.specs.Rules.{record_bytes, body, record_at, look_up_of, LookedUp}
 use Rattle.codes.specs.Codes.{counts_code_of}
 use Rattle.batch.specs.declared.Batch.{Batch}
 use Rattle.batch.specs.Rules.{max_queries, query_at, queries_in, alone_of, part_of, reply_code, is_found, is_made, is_refused, lengths_fit, refused_by, refused_whole, look_up_batch_of, end_to_end, batched_in}
@@ -32,6 +29,7 @@ use Rattle.guarantees.specs.Claims.{MadeServedReported, Same, MadeCatalogue, Agr
 use Rattle.guarantees.specs.Visitors.{SameButNumbers, served_from}
 use Rattle.guarantees.specs.Batches.{records_after, Fitting, BatchReason, EveryOutcome, EveryQuery, HeldFor, Walked, Counted, BatchAlike, BatchSame, TheBatches}
 use Rattle.guarantees.proofs.Records.{same}
+use Rattle.sequence.specs.Answers.{Outcome}
 
 -- ---- when each refusal is given
 
@@ -81,13 +79,13 @@ module _ (queries catalogue out replies : List ℕ) where
         exactly = λ o h. outcome_is queries catalogue out replies ∙ exactly_of o h;
         by_number = answer_told queries catalogue out replies;
         records_kept = λ who r e. ap (λ (o : Outcome). batched_in o (end_to_end (queries_in queries) (λ i. part_of who (query_at queries i) catalogue)) out) e;
-        none_counted = λ r e. reply_by_lem queries catalogue out replies (Refused r) (sym (outcome_is queries catalogue out replies) ∙ e);
+        none_counted = λ r e. reply_by_lem queries catalogue out replies (Err r) (sym (outcome_is queries catalogue out replies) ∙ e);
         replies_kept = λ r e. ap (λ (o : Outcome). batched_in o (tabulate (queries_in queries) (λ i. reply_code (alone_of (query_at queries i) catalogue))) replies) e;
       }
 
 -- ---- each query
 
-module _ (queries catalogue out replies : List ℕ) (done : (look_up_batch_of queries catalogue out replies).outcome ≡ Done) where
+module _ (queries catalogue out replies : List ℕ) (done : (look_up_batch_of queries catalogue out replies).outcome ≡ Ok tt) where
   every_query : (who : ℕ) → EveryQuery who queries catalogue out replies
   every_query who =
       record {
@@ -134,14 +132,14 @@ module _ (who : ℕ) (query catalogue : List ℕ) (j : ℕ) (part : List ℕ) (r
   part_by e = ep ∙ ap (λ (t : LookedUp). held_part who t catalogue) e
 
   -- what is held, by its number: of a query that passed its checks it is no refusal
-  told_by : check_of query ≡ Done → (t : LookedUp) → held_of query catalogue j ≡ t
-      → ((k : ℕ) → reply ≡ 256 * (1 + k) → held_of query catalogue j ≡ S.Found k) × (reply ≡ 0 → held_of query catalogue j ≡ S.Made)
-  told_by p (S.Found i) e = (
-    λ k h. e ∙ ap (λ (x : ℕ). S.Found x) (let z : i ≡ k = omega (arith, h, code_by e) in z),
+  told_by : check_of query ≡ Ok tt → (t : LookedUp) → held_of query catalogue j ≡ t
+      → ((k : ℕ) → reply ≡ 256 * (1 + k) → held_of query catalogue j ≡ Ok (Some k)) × (reply ≡ 0 → held_of query catalogue j ≡ Ok None)
+  told_by p (Ok (Some i)) e = (
+    λ k h. e ∙ ap (λ (x : ℕ). Ok (Some x)) (let z : i ≡ k = omega (arith, h, code_by e) in z),
     λ h. absurd (let z : ◌≡◌ {A = ℕ} 0 1 = omega (arith, h, code_by e) in omega (arith, z)),
   )
-  told_by p S.Made e = (λ k h. absurd (let z : ◌≡◌ {A = ℕ} 0 1 = omega (arith, h, code_by e) in omega (arith, z)), λ h. e)
-  told_by p (S.Refused r) e = absurd (held_accepted query catalogue j p e)
+  told_by p (Ok None) e = (λ k h. absurd (let z : ◌≡◌ {A = ℕ} 0 1 = omega (arith, h, code_by e) in omega (arith, z)), λ h. e)
+  told_by p (Err r) e = absurd (held_accepted query catalogue j p e)
 
   held_for : HeldFor who query catalogue j part reply
   held_for =
@@ -173,11 +171,11 @@ batch_alike queries c c' out replies s =
 
 module _
     (queries catalogue out replies : List ℕ)
-    (done : (look_up_batch_of queries catalogue out replies).outcome ≡ Done)
+    (done : (look_up_batch_of queries catalogue out replies).outcome ≡ Ok tt)
     (made : MadeCatalogue catalogue)
     (who i : ℕ)
     (h : i < queries_in queries)
-    (passed : check_of (query_at queries i) ≡ Done)
+    (passed : check_of (query_at queries i) ≡ Ok tt)
     (lent : List ℕ)
     (l : length lent ≡ record_bytes)
   where
@@ -185,17 +183,17 @@ module _
     unfolding MadeServedReported
     alone_same = same (query_at queries i) catalogue who lent passed made l
 
-    not_refused : (r : Refusal) → look_up_of (query_at queries i) catalogue lent ≡ S.Refused r → ⊥
+    not_refused : (r : Refusal) → look_up_of (query_at queries i) catalogue lent ≡ Err r → ⊥
     not_refused r e = go alone_same.served
       where
-        go : ((k : ℕ) × (look_up_of (query_at queries i) catalogue lent ≡ S.Found k)) ⊎ (look_up_of (query_at queries i) catalogue lent ≡ S.Made) → ⊥
-        go (inl (k, f)) = let q : S.Found k ≡ S.Refused r = sym f ∙ e in let z : ◌≡◌ {A = ℕ} 0 1 = cc in absurd (omega arith)
-        go (inr f) = let q : S.Made ≡ S.Refused r = sym f ∙ e in let z : ◌≡◌ {A = ℕ} 0 1 = cc in absurd (omega arith)
+        go : ((k : ℕ) × (look_up_of (query_at queries i) catalogue lent ≡ Ok (Some k))) ⊎ (look_up_of (query_at queries i) catalogue lent ≡ Ok None) → ⊥
+        go (inl (k, f)) = let q : Ok (Some k) ≡ Err r = sym f ∙ e in let z : ◌≡◌ {A = ℕ} 0 1 = cc in absurd (omega arith)
+        go (inr f) = let q : (Ok None) ≡ Err r = sym f ∙ e in let z : ◌≡◌ {A = ℕ} 0 1 = cc in absurd (omega arith)
 
     served : record_at (records_after who queries catalogue out replies) i ≡ served_from who (query_at queries i) catalogue lent
     served = part_at queries catalogue out replies done who i h ∙ part_served who (query_at queries i) catalogue lent l not_refused
 
-    whole_code : ((k : ℕ) × (look_up_of (query_at queries i) catalogue lent ≡ S.Found k)) ⊎ (look_up_of (query_at queries i) catalogue lent ≡ S.Made)
+    whole_code : ((k : ℕ) × (look_up_of (query_at queries i) catalogue lent ≡ Ok (Some k))) ⊎ (look_up_of (query_at queries i) catalogue lent ≡ Ok None)
         → reply_code (look_up_of (query_at queries i) catalogue lent) % 256 ≡ 0
     whole_code (inl (k, f)) = ap (λ (t : LookedUp). reply_code t % 256) f ∙ omega arith
     whole_code (inr f) = ap (λ (t : LookedUp). reply_code t % 256) f

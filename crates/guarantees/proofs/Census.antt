@@ -9,6 +9,7 @@ use native.Mathlib.Decide.{ℕ_discrete}
 use native.Mathlib.Omega.{arith}
 use lib.Dec.{eqb}
 use lib.ListN.{length}
+use Rattle.std.specs.Prelude.{Option, Some, None, Ok, Err}
 use Rattle.lists.specs.Choice.{pick}
 use Rattle.lists.specs.Sum.{sum_to}
 use Rattle.lists.specs.Table.{at}
@@ -27,8 +28,6 @@ use Rattle.counting.proofs.Numbering.{list_at_length, list_at_below, list_at_of,
 use Rattle.counting.proofs.Lengths.{lengths_past, lengths_whole, lengths_none, lengths_prime}
 use Rattle.sequence.specs.declared.Refusal.{Refusal}
 use Rattle.sequence.specs.declared.Refusal.TheVariants as R
-use Rattle.sequence.specs.declared.Outcome.{Outcome}
-use Rattle.sequence.specs.declared.Outcome.TheVariants.{Done, Refused}
 use Rattle.sequence.specs.Limits.{max_terms, query_bytes, profile_bytes}
 use Rattle.sequence.specs.Rules.{query_of, check_of}
 use Rattle.sequence.specs.Report.{filled}
@@ -37,8 +36,6 @@ use Rattle.catalogue.specs.Rules.{record_bytes}
 use Rattle.enumeration.specs.Rules.{lengths, tally_bytes, enumerate_of, query_numbered, tally_of, tally_cells}
 use Rattle.enumeration.proofs.Laws as L
 use Rattle.enumeration.proofs.Answers.{enumerate_told, tally_told}
-use Rattle.formatting.specs.declared.Pair.{Pair}
-use Rattle.formatting.specs.declared.Pair.TheVariants.{Numbers, NoPair}
 use Rattle.formatting.specs.Census.{pair_in, answer_of, no_pair_line, pair_line, is_pair}
 use Rattle.formatting.proofs.Tallies.{line_refused, line_made}
 use Rattle.formatting.proofs.Pairs.{pair_printed, pair_answered}
@@ -48,12 +45,13 @@ use Rattle.guarantees.specs.Census as S
 use Rattle.guarantees.specs.Census.{query_after, cells_after, count_of, Countable, Uncounted, NumberReason, TallyReason, EveryReply, Numbered, Tally, PrintedLines, Census, TheCensus}
 use Rattle.guarantees.proofs.Lines.{inside_not, outside_is}
 use Rattle.guarantees.proofs.Shown.{cell_least, made_least, query_terms}
+use Rattle.sequence.specs.Answers.{Outcome}
 
 -- ---- the reason of each reply
 
-kept : (o : Outcome) (new old : List ℕ) → (o ≡ Done → ⊥) → filled o new old ≡ old
-kept Done new old h = absurd (h refl)
-kept (Refused r) new old h = refl
+kept : (o : Outcome) (new old : List ℕ) → (o ≡ Ok tt → ⊥) → filled o new old ≡ old
+kept (Ok tt) new old h = absurd (h refl)
+kept (Err r) new old h = refl
 
 module _ (m n : ℕ) where
   legal : Countable m n → L.Legal m n (m ^ n)
@@ -144,7 +142,7 @@ module _ (m n : ℕ) (c : Countable m n) (query : List ℕ) (sized : length quer
   is_list : (x : ℕ) → x < m ^ n → terms_of (after x) ≡ list_at m n x
   is_list x h = ap terms_of (is_query x h) ∙ query_terms m (list_at m n x) c.modulus.least c.modulus.most (few x) (below x)
 
-  passes : (x : ℕ) → x < m ^ n → check_of (after x) ≡ Done
+  passes : (x : ℕ) → x < m ^ n → check_of (after x) ≡ Ok tt
   passes x h = ap check_of (is_query x h) ∙ query_passes m (list_at m n x) c.modulus.least c.modulus.most (few x) (below x)
 
   modulus_is : (x : ℕ) → x < m ^ n → cell_at (after x) 0 ≡ m
@@ -245,9 +243,9 @@ module _ (m n : ℕ) (c : Countable m n) (query : List ℕ) (sized : length quer
 
 -- ---- the program's lines
 
-no_pair : (p : Pair) → is_pair p ≡ false → answer_of p ≡ no_pair_line
-no_pair (Numbers m n) h = false_true (sym h)
-no_pair NoPair h = refl
+no_pair : (p : Option (ℕ × ℕ)) → is_pair p ≡ false → answer_of p ≡ no_pair_line
+no_pair (Some (m, n)) h = false_true (sym h)
+no_pair None h = refl
 
 lines : (m n : ℕ) (cells : List ℕ) → length cells ≡ tally_bytes → PrintedLines m n cells
 unfolding pair_line

@@ -10,14 +10,13 @@ use native.Mathlib.Decide.{ℕ_discrete}
 use native.Mathlib.Omega.{arith}
 use lib.ListN.{length, take, length-append}
 use borrow.Author.Tests.{lt-ltb, eq-eqb}
+use Rattle.std.specs.Prelude.{Ok, Err}
 use Rattle.lists.specs.Table.{at}
 use Rattle.lists.proofs.Table.{is_tabulate}
 use Rattle.cells.specs.Cell.{cell_at, bytes_of}
 use Rattle.cells.proofs.Laws.{length_bytes_of, cell_at_bytes_of}
 use Rattle.sequence.specs.declared.Sequence.{Sequence}
 use Rattle.sequence.specs.declared.Refusal.TheVariants as R
-use Rattle.sequence.specs.declared.Outcome.{Outcome}
-use Rattle.sequence.specs.declared.Outcome.TheVariants.{Done, Refused}
 use Rattle.sequence.specs.Limits.{max_modulus, max_terms}
 use Rattle.sequence.specs.Rules.{IsSound, fault_of, is_sound, open_of, longer, push_of}
 use Rattle.sequence.proofs.Laws.{refused_done, sound_of, push_kept}
@@ -27,6 +26,7 @@ use Rattle.column.proofs.Laws.{each_none, each_push, each_by, column_odd, column
 use Rattle.guarantees.specs.Calls.{Call, push, push_all, after, after_all, takes_each, taken_from, taken}
 use Rattle.guarantees.specs.Columns.{Ends, all, full, large, Takes, after_first, EndsSingly, Singly, taken_then, StandsFor, EveryColumn}
 use Rattle.guarantees.proofs.State.{taken_held, after_sound, after_count, column_joined}
+use Rattle.sequence.specs.Answers.{Outcome}
 
 -- ---- by the terms
 
@@ -49,12 +49,12 @@ module _ (s : Sequence) (t : ℕ) (ts : List ℕ) (small : t < s.modulus) (r : P
   more_below zero h = small
   more_below (suc i) h = k.below i (omega arith)
 
-  more_ends : Ends (longer s t) ts r → Ends s (t ∷ ts) (onward Done (longer s t) r)
+  more_ends : Ends (longer s t) ts r → Ends s (t ∷ ts) (onward (Ok tt) (longer s t) r)
   more_ends (all e o) = all (ap suc e) o
   more_ends (full l e o) = full (omega arith) (omega arith) o
-  more_ends (large l h b o) = large (omega arith) (omega arith) b (o ∙ ap (λ (n : ℕ). Refused (R.Term n)) (let e : s.count + 1 + r.taken ≡ s.count + suc r.taken = omega arith in e))
+  more_ends (large l h b o) = large (omega arith) (omega arith) b (o ∙ ap (λ (n : ℕ). Err (R.Term n)) (let e : s.count + 1 + r.taken ≡ s.count + suc r.taken = omega arith in e))
 
-  more : Takes s (t ∷ ts) (onward Done (longer s t) r)
+  more : Takes s (t ∷ ts) (onward (Ok tt) (longer s t) r)
   more =
       record {
         below = more_below;
@@ -68,10 +68,10 @@ module _ (s : Sequence) (t : ℕ) (ts : List ℕ) (small : t < s.modulus) (r : P
 each_takes : (s : Sequence) (ts : List ℕ) → IsSound s → Takes s ts (each_of s ts)
 each_takes =
     each_by Takes
-    (λ s h. none s [] h Done (all refl refl))
-    (λ s t ts h e. none s (t ∷ ts) h (Refused R.Full) (full (omega arith) (omega arith) refl))
-    (λ s t ts h room l. none s (t ∷ ts) h (Refused (R.Term s.count))
-    (large (omega arith) (omega arith) l (ap (λ (n : ℕ). Refused (R.Term n)) (let e : s.count ≡ s.count + 0 = omega arith in e))))
+    (λ s h. none s [] h (Ok tt) (all refl refl))
+    (λ s t ts h e. none s (t ∷ ts) h (Err R.Full) (full (omega arith) (omega arith) refl))
+    (λ s t ts h room l. none s (t ∷ ts) h (Err (R.Term s.count))
+    (large (omega arith) (omega arith) l (ap (λ (n : ℕ). Err (R.Term n)) (let e : s.count ≡ s.count + 0 = omega arith in e))))
     (λ s t ts r h room l k. more s t ts l r k)
 
 -- ---- by single pushes
@@ -88,16 +88,16 @@ each_singly s (t ∷ ts) = subst (Singly s (t ∷ ts)) (sym (each_push s t ts)) 
     rest = each_of s' ts
 
     go : (o : Outcome) → (push_of s t).outcome ≡ o → Singly s' ts rest → Singly s (t ∷ ts) (onward o s' rest)
-    go Done e k = record { each = each; sequence = k.sequence; ends = ends k.ends }
+    go (Ok tt) e k = record { each = each; sequence = k.sequence; ends = ends k.ends }
       where
-        each : (i : ℕ) → i < suc rest.taken → (push_of (after_first s (t ∷ ts) i) (at (t ∷ ts) i)).outcome ≡ Done
+        each : (i : ℕ) → i < suc rest.taken → (push_of (after_first s (t ∷ ts) i) (at (t ∷ ts) i)).outcome ≡ Ok tt
         each zero h = e
         each (suc i) h = k.each i (omega arith)
 
-        ends : EndsSingly ts rest → EndsSingly (t ∷ ts) (onward Done s' rest)
+        ends : EndsSingly ts rest → EndsSingly (t ∷ ts) (onward (Ok tt) s' rest)
         ends (inl x) = inl (ap suc x.0, x.1)
         ends (inr x) = inr (omega (arith, x.0), x.1, x.2)
-    go (Refused r) e k = record { each = λ i h. absurd (not-suc-le-zero h); sequence = kept; ends = inr (omega arith, sym e ∙ ap (λ (x : Sequence). (push_of x t).outcome) (sym kept), (λ h. refused_done h)) }
+    go (Err r) e k = record { each = λ i h. absurd (not-suc-le-zero h); sequence = kept; ends = inr (omega arith, sym e ∙ ap (λ (x : Sequence). (push_of x t).outcome) (sym kept), (λ h. refused_done h)) }
       where
         kept : s' ≡ s
         kept = push_kept s t (λ h. refused_done (sym e ∙ h))
@@ -188,6 +188,6 @@ every_column =
       whole = whole;
     }
   where
-    unsound : (s : Sequence) (list : List ℕ) → length list % 2 ≡ zero → (IsSound s → ⊥) → (b : Bool) → is_sound (fault_of s) ≡ b → push_all_of s list ≡ took zero s (Refused R.Sequence)
+    unsound : (s : Sequence) (list : List ℕ) → length list % 2 ≡ zero → (IsSound s → ⊥) → (b : Bool) → is_sound (fault_of s) ≡ b → push_all_of s list ≡ took zero s (Err R.Sequence)
     unsound s list e h true k = absurd (h (sound_of s k))
     unsound s list e h false k = column_unsound s list e k

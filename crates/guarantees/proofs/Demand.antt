@@ -6,6 +6,7 @@ use Prim.Native.Nat.{ℕ, zero, ◌≤◌, ◌<◌}
 use native.Mathlib.Omega.{arith}
 use lib.ListN.{length}
 use borrow.Author.Tests.{eq-eqb, le-leb, lt-leb}
+use Rattle.std.specs.Prelude.{Ok}
 use Rattle.lists.specs.Choice.{pick}
 use Rattle.lists.specs.Table.{at, tabulate}
 use Rattle.cells.specs.Cell.{cell_at, bytes_of}
@@ -17,15 +18,13 @@ use Rattle.recurrence.specs.Register.{Register, complexity}
 use Rattle.recurrence.proofs.Steps.{Alike}
 use Rattle.recurrence.proofs.Register.{Right, register_right, register_same, complexity_same, complexity_short, complexity_is_least, register_length}
 use Rattle.sequence.specs.declared.Sequence.{Sequence}
-use Rattle.sequence.specs.declared.Outcome.{Outcome}
-use Rattle.sequence.specs.declared.Outcome.TheVariants.{Done}
-use Rattle.sequence.specs.declared.Reported.{Reported}
 use Rattle.sequence.specs.Limits.{max_modulus, max_terms, max_cells, a_bytes, b_bytes, profile_bytes}
 use Rattle.synthesis.specs.Synthesis.{length_at}
-use Rattle.sequence.specs.Report.{length_told, register_of, a_buffer, b_buffer, profile_buffer, report_of, written, profile_of, filled}
+use Rattle.sequence.specs.Report.{length_told, register_of, a_buffer, b_buffer, profile_buffer, report_of, profile_of, filled}
 use Rattle.guarantees.specs.Calls.{taken}
 use Rattle.guarantees.specs.Claims.{ShownBy, Demand3}
 use Rattle.guarantees.proofs.State.{holding, padded, padded_at, Good, sound_for, opens, state, good}
+use Rattle.sequence.specs.Answers.{Outcome, Reported}
 
 module _ (m : ℕ) (least : 2 ≤ m) (most : m ≤ max_modulus) (ts : List ℕ) (g : Good m ts) where
   big : 1 < m
@@ -53,20 +52,20 @@ module _ (m : ℕ) (least : 2 ≤ m) (most : m ≤ max_modulus) (ts : List ℕ) 
   reported a b ha hb =
       rw (eq-eqb (length a) a_bytes ha, eq-eqb (length b) b_bytes hb, sound_for m least most ts g) (ap (λ (x : Register). length_told m (length ts) x.length) same_register)
 
-  pub profiled : (cells : List ℕ) → length cells ≡ profile_bytes → profile_of (holding m ts) cells ≡ Done
+  pub profiled : (cells : List ℕ) → length cells ≡ profile_bytes → profile_of (holding m ts) cells ≡ Ok tt
   unfolding profile_of
   profiled cells h = rw (eq-eqb (length cells) profile_bytes h, sound_for m least most ts g)
 
   pub a_written : (a b : List ℕ) → length a ≡ a_bytes → length b ≡ b_bytes
-      → written (report_of (holding m ts) a b) (a_buffer (holding m ts)) a ≡ bytes_of (tabulate max_cells (at (T.register m ts (length ts)).a))
+      → filled (report_of (holding m ts) a b) (a_buffer (holding m ts)) a ≡ bytes_of (tabulate max_cells (at (T.register m ts (length ts)).a))
   a_written a b ha hb =
-      ap (λ (r : Reported). written r (a_buffer (holding m ts)) a) (reported a b ha hb)
+      ap (λ (r : Reported). filled r (a_buffer (holding m ts)) a) (reported a b ha hb)
       ∙ ap (λ (x : Register). bytes_of (tabulate max_cells (at x.a))) same_register
 
   pub b_written : (a b : List ℕ) → length a ≡ a_bytes → length b ≡ b_bytes
-      → written (report_of (holding m ts) a b) (b_buffer (holding m ts)) b ≡ bytes_of (tabulate max_terms (at (T.register m ts (length ts)).b))
+      → filled (report_of (holding m ts) a b) (b_buffer (holding m ts)) b ≡ bytes_of (tabulate max_terms (at (T.register m ts (length ts)).b))
   b_written a b ha hb =
-      ap (λ (r : Reported). written r (b_buffer (holding m ts)) b) (reported a b ha hb)
+      ap (λ (r : Reported). filled r (b_buffer (holding m ts)) b) (reported a b ha hb)
       ∙ ap (λ (x : Register). bytes_of (tabulate max_terms (at x.b))) same_register
 
   profile_cell_lem : (cells : List ℕ) → length cells ≡ profile_bytes → (k : ℕ) → k < max_cells → length_at m (padded ts) (length ts) k < 65536

@@ -10,11 +10,9 @@ use lib.Seq.{take-suc, take_all}
 use Rattle.lists.specs.Table.{at}
 use Rattle.sequence.specs.declared.Sequence.{Sequence}
 use Rattle.sequence.specs.declared.Pushed.{Pushed}
-use Rattle.sequence.specs.declared.Outcome.{Outcome}
-use Rattle.sequence.specs.declared.Reported.{Reported}
 use Rattle.sequence.specs.Limits.{max_modulus, a_bytes, b_bytes, profile_bytes}
 use Rattle.sequence.specs.Rules.{open_of, push_of}
-use Rattle.sequence.specs.Report.{report_of, a_buffer, b_buffer, written, profile_of, profile_buffer, filled}
+use Rattle.sequence.specs.Report.{report_of, a_buffer, b_buffer, profile_of, profile_buffer, filled}
 use Rattle.column.specs.declared.PushedAll.{PushedAll}
 use Rattle.column.specs.Rules.{push_all_of}
 use Rattle.guarantees.specs.declared.Replies.{Replies}
@@ -22,15 +20,16 @@ use Rattle.guarantees.specs.Calls.{after, after_all}
 use Rattle.guarantees.specs.Claims.{Shows, ShownBy, Demand3}
 use Rattle.guarantees.specs.Coded.{call_of, taken_by, State, state_of, after_register, after_profile, after_code, after_codes, driven_to, replies_of, ended}
 use Rattle.guarantees.proofs.Demand.{demand}
+use Rattle.sequence.specs.Answers.{Outcome, Reported}
 
 -- ---- one call
 
 -- a register was made
-after_register_lem : (s : Sequence) (a b cells a' b' : List ℕ) (r : Reported) → r ≡ report_of s a b → a' ≡ written r (a_buffer s) a → b' ≡ written r (b_buffer s) b
+after_register_lem : (s : Sequence) (a b cells a' b' : List ℕ) (r : Reported) → r ≡ report_of s a b → a' ≡ filled r (a_buffer s) a → b' ≡ filled r (b_buffer s) b
     → state_of s a' b' cells ≡ after_register (state_of s a b cells)
 unfolding after_register
 after_register_lem s a b cells a' b' r hr ha hb =
-    λ i. state_of s ((ha ∙ ap (λ (t : Reported). written t (a_buffer s) a) hr) i) ((hb ∙ ap (λ (t : Reported). written t (b_buffer s) b) hr) i) cells
+    λ i. state_of s ((ha ∙ ap (λ (t : Reported). filled t (a_buffer s) a) hr) i) ((hb ∙ ap (λ (t : Reported). filled t (b_buffer s) b) hr) i) cells
 
 -- a profile
 after_profile_lem : (s : Sequence) (a b cells cells' : List ℕ) (o : Outcome) → o ≡ profile_of s cells → cells' ≡ filled o (profile_buffer s) cells
@@ -43,7 +42,7 @@ module _ (s : Sequence) (code : ℕ) (list a b cells : List ℕ) where
   coded : (c : ℕ) {x : State} → x ≡ after_code list (state_of s a b cells) c → code ≡ c → x ≡ after_code list (state_of s a b cells) code
   coded c h e = h ∙ ap (after_code list (state_of s a b cells)) (sym e)
 
-  pub reports : (a' b' : List ℕ) (r : Reported) → code ≡ 0 → r ≡ report_of s a b → a' ≡ written r (a_buffer s) a → b' ≡ written r (b_buffer s) b
+  pub reports : (a' b' : List ℕ) (r : Reported) → code ≡ 0 → r ≡ report_of s a b → a' ≡ filled r (a_buffer s) a → b' ≡ filled r (b_buffer s) b
       → state_of s a' b' cells ≡ after_code list (state_of s a b cells) code
   unfolding after_code
   reports a' b' r h hr ha hb = coded 0 (after_register_lem s a b cells a' b' r hr ha hb) h
@@ -110,7 +109,7 @@ ShowsAt m list codes r x = Shows m (taken_by m list codes) r.reported r.profiled
 
 module _ (m : ℕ) (codes list a₀ b₀ cells₀ : List ℕ) (s : Sequence) (a b cells : List ℕ) (reached : state_of s a b cells ≡ driven_to m codes list a₀ b₀ cells₀)
     (same_a : length a ≡ length a₀) (same_b : length b ≡ length b₀) (same_cells : length cells ≡ length cells₀)
-    (r : Reported) (o : Outcome) (a' b' cells' : List ℕ) (hr : r ≡ report_of s a b) (ha : a' ≡ written r (a_buffer s) a) (hb : b' ≡ written r (b_buffer s) b)
+    (r : Reported) (o : Outcome) (a' b' cells' : List ℕ) (hr : r ≡ report_of s a b) (ha : a' ≡ filled r (a_buffer s) a) (hb : b' ≡ filled r (b_buffer s) b)
     (ho : o ≡ profile_of s cells) (hc : cells' ≡ filled o (profile_buffer s) cells) where
   replied : ◌≡◌ {A = Replies} (record { reported = r; profiled = o }) (replies_of (state_of s a b cells))
   unfolding replies_of

@@ -10,6 +10,7 @@ use lib.IntN.{ℤ, pos}
 use lib.ListN.{length, get_or, length-map}
 use lib.Seq.{ext_get_or}
 use borrow.Author.Tests.{eqb-true, eqb-false, ltb-true, ltb-false, eq-eqb, ne_eqb, lt-ltb, le-ltb}
+use Rattle.std.specs.Prelude.{Ok, Err}
 use Rattle.lists.specs.Table.{at}
 use Rattle.lists.proofs.Choice.{picked, passed}
 use Rattle.lists.proofs.Search.{false_true}
@@ -18,8 +19,6 @@ use Rattle.residue.specs.Signed.{residue_of, Stands}
 use Rattle.residue.proofs.Signed.{residue_stands, stands_residue}
 use Rattle.cells.specs.Cell.{cell_at}
 use Rattle.sequence.specs.declared.Refusal.TheVariants as R
-use Rattle.sequence.specs.declared.Outcome.{Outcome}
-use Rattle.sequence.specs.declared.Outcome.TheVariants.{Done, Refused}
 use Rattle.sequence.specs.Limits.{max_terms, query_bytes}
 use Rattle.sequence.specs.Rules.{outside, query_of}
 use Rattle.sequence.specs.Report.{filled}
@@ -33,6 +32,7 @@ use Rattle.lines.proofs.Values.{line_read}
 use Rattle.lines.proofs.Told.{Tells, told, exactly, modulus_same, terms_same}
 use Rattle.lines.proofs.Writing.{at_map}
 use Rattle.guarantees.specs.Lines.{Says, Inside, ByHand, ByCells, exit_of, Reason, buffer, form, range, modulus, count, done, ReadsLine, TypedLines}
+use Rattle.sequence.specs.Answers.{Outcome}
 
 -- ---- the last two tests
 
@@ -59,17 +59,17 @@ module _ (line query : List ℕ) where
   line_reply : (l : Line) → length query ≡ query_bytes → Says line l → read_of line query ≡ reply_to (modulus_of l) (length (values_of l))
   line_reply l h s = found_reply h ∙ ap reply_of (ap found_in (sym s.spelt) ∙ line_read l s.fits)
 
-  is_buffer : (length query ≡ query_bytes → ⊥) → read_of line query ≡ Refused R.Buffer
+  is_buffer : (length query ≡ query_bytes → ⊥) → read_of line query ≡ Err R.Buffer
   unfolding read_of
   is_buffer h = passed _ _ (ne_eqb _ _ h)
 
-  is_modulus : (l : Line) → length query ≡ query_bytes → Says line l → (Inside (modulus_of l) → ⊥) → read_of line query ≡ Refused R.Modulus
+  is_modulus : (l : Line) → length query ≡ query_bytes → Says line l → (Inside (modulus_of l) → ⊥) → read_of line query ≡ Err R.Modulus
   is_modulus l h s o = line_reply l h s ∙ picked _ _ (outside_is (modulus_of l) o)
 
-  is_count : (l : Line) → length query ≡ query_bytes → Says line l → Inside (modulus_of l) → max_terms < length (values_of l) → read_of line query ≡ Refused R.Count
+  is_count : (l : Line) → length query ≡ query_bytes → Says line l → Inside (modulus_of l) → max_terms < length (values_of l) → read_of line query ≡ Err R.Count
   is_count l h s i n = line_reply l h s ∙ passed _ _ (inside_not (modulus_of l) i) ∙ picked _ _ (lt-ltb _ _ n)
 
-  is_done : (l : Line) → length query ≡ query_bytes → Says line l → Inside (modulus_of l) → length (values_of l) ≤ max_terms → read_of line query ≡ Done
+  is_done : (l : Line) → length query ≡ query_bytes → Says line l → Inside (modulus_of l) → length (values_of l) ≤ max_terms → read_of line query ≡ Ok tt
   is_done l h s i n = line_reply l h s ∙ passed _ _ (inside_not (modulus_of l) i) ∙ passed _ _ (le-ltb _ _ n)
 
   -- a line that reads well meets one of the last three
@@ -143,7 +143,7 @@ same_meaning line l l' s s' = sym (line_read l s.fits) ∙ ap found_in (s.spelt 
 
 module _ (line query : List ℕ) where
   -- only the last reply says done
-  done_line : read_of line query ≡ Done → (l : Line) → Says line l → Inside (modulus_of l) × (length (values_of l) ≤ max_terms)
+  done_line : read_of line query ≡ Ok tt → (l : Line) → Says line l → Inside (modulus_of l) × (length (values_of l) ≤ max_terms)
   done_line d l s = go (reason line query)
     where
       go : Reason line query (read_of line query) → Inside (modulus_of l) × (length (values_of l) ≤ max_terms)
@@ -157,22 +157,22 @@ module _ (line query : List ℕ) where
         subst (λ (us : List ℤ). length us ≤ max_terms) (terms_same (same_meaning line k l t s)) n,
       )
 
-  query_is : read_of line query ≡ Done → (l : Line) → Says line l → exit_of line query ≡ query_of (modulus_of l) (map (residue_of (modulus_of l)) (values_of l))
+  query_is : read_of line query ≡ Ok tt → (l : Line) → Says line l → exit_of line query ≡ query_of (modulus_of l) (map (residue_of (modulus_of l)) (values_of l))
   query_is d l s =
       ap (λ (o : Outcome). filled o (query_in (found_in line)) query) d
       ∙ ap query_in (ap found_in (sym s.spelt) ∙ line_read l s.fits)
 
-  hand_written : read_of line query ≡ Done → (l : Line) → Says line l → ByHand l (exit_of line query) × ByCells l (exit_of line query)
+  hand_written : read_of line query ≡ Ok tt → (l : Line) → Says line l → ByHand l (exit_of line query) × ByCells l (exit_of line query)
   hand_written d l s =
       let w = done_line d l s in
       subst (λ (q : List ℕ). ByHand l q × ByCells l q) (sym (query_is d l s)) (by_hand l w.0 w.1, by_cells l w.0 w.1)
 
-  kept : (read_of line query ≡ Done → ⊥) → exit_of line query ≡ query
+  kept : (read_of line query ≡ Ok tt → ⊥) → exit_of line query ≡ query
   kept n = go (read_of line query) refl
     where
       go : (o : Outcome) → read_of line query ≡ o → filled o (query_in (found_in line)) query ≡ query
-      go Done e = absurd (n e)
-      go (Refused r) e = refl
+      go (Ok tt) e = absurd (n e)
+      go (Err r) e = refl
 
   reads_line : ReadsLine line query
   reads_line =

@@ -5,6 +5,7 @@ use mathlib.Core.List.{List}
 use Prim.Native.Nat.{ℕ, zero, suc, ◌≤◌}
 use native.Mathlib.Omega.{arith}
 use lib.ListN.{length}
+use Rattle.std.specs.Prelude.{Err}
 use Rattle.lists.specs.Table.{at}
 use Rattle.lists.proofs.Table.{at_tabulate_all}
 use Rattle.cells.specs.Cell.{cell_at}
@@ -14,11 +15,9 @@ use Rattle.recurrence.proofs.Polynomial.{degree_past}
 use Rattle.recurrence.proofs.Register.{Right, register_right}
 use Rattle.recurrence.proofs.Start.{order_last, order_within, start_holds, start_first}
 use Rattle.sequence.specs.declared.Sequence.{Sequence}
-use Rattle.sequence.specs.declared.Reported.{Reported}
-use Rattle.sequence.specs.declared.Reported.TheVariants.{Length, Refused}
 use Rattle.sequence.specs.Limits.{max_modulus, a_bytes, b_bytes}
 use Rattle.sequence.specs.Rules.{open_of, sequence_of}
-use Rattle.sequence.specs.Report.{a_buffer, report_of, written}
+use Rattle.sequence.specs.Report.{a_buffer, report_of, filled}
 use Rattle.candidate.specs.Rules.{a_cells}
 use Rattle.catalogue.specs.Rules.{body, length_cell, layout, record_of, look_up_of, served_in}
 use Rattle.catalogue.proofs.Places.{made_body}
@@ -31,6 +30,7 @@ use Rattle.guarantees.specs.Listing.{Ordered, a_after, EveryOrder, TheListing, N
 use Rattle.guarantees.proofs.State.{holding, holding_sound, Good, state, good}
 use Rattle.guarantees.proofs.Demand.{reported, same_register}
 use Rattle.guarantees.proofs.Records.{size, held, least, most, agrees, made_record, outcome}
+use Rattle.sequence.specs.Answers.{Reported, of_length}
 
 module _ (m : ℕ) (low : 2 ≤ m) (high : m ≤ max_modulus) (ts : List ℕ) (g : Good m ts) (a b : List ℕ) (ha : length a ≡ a_bytes) (hb : length b ≡ b_bytes) where
   abbrev x : T.Register
@@ -45,7 +45,7 @@ module _ (m : ℕ) (low : 2 ≤ m) (high : m ≤ max_modulus) (ts : List ℕ) (g
   -- the cells of a are the register's coefficients
   same : (i : ℕ) → at shown i ≡ at x.a i
   same i =
-      ap (λ (r : Reported). at (a_cells (written r (a_buffer (holding m ts)) a)) i) (reported m low high ts g a b ha hb)
+      ap (λ (r : Reported). at (a_cells (filled r (a_buffer (holding m ts)) a)) i) (reported m low high ts g a b ha hb)
       ∙ a_back (holding m ts) (holding_sound m low high ts g) i
       ∙ ap (λ (y : T.Register). at y.a i) (same_register m low high ts g)
 
@@ -73,8 +73,8 @@ every_order m low high calls a b ha hb =
     (ordered m low high (taken m calls) (good m low high calls) a b ha hb)
 
 told : Reported → ℕ
-told (Length l w) = l
-told (Refused r) = zero
+told (of_length l w) = l
+told (Err r) = zero
 
 pub the_listing : TheListing
 unfolding TheListing EveryOrder told sequence_of

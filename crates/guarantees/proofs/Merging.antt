@@ -10,6 +10,7 @@ use native.Mathlib.Omega.{arith}
 use lib.Dec.{eqb}
 use lib.ListN.{length}
 use borrow.Author.Tests.{eq-eqb, ne_eqb, eqb-true}
+use Rattle.std.specs.Prelude.{Ok, Err}
 use Rattle.lists.specs.Choice.{pick}
 use Rattle.lists.specs.Table.{at}
 use Rattle.lists.proofs.Search.{false_true}
@@ -22,14 +23,12 @@ use Rattle.recurrence.proofs.Length.{least_unique}
 use Rattle.sequence.specs.declared.Sequence.{Sequence}
 use Rattle.sequence.specs.declared.Refusal.{Refusal}
 use Rattle.sequence.specs.declared.Refusal.TheVariants as R
-use Rattle.sequence.specs.declared.Outcome.{Outcome}
-use Rattle.sequence.specs.declared.Outcome.TheVariants.{Done, Refused}
 use Rattle.sequence.specs.Limits.{max_modulus, query_bytes, profile_bytes}
 use Rattle.sequence.specs.Rules.{IsSound, sequence_of, check_of}
-use Rattle.sequence.specs.Answers.{refusal}
+use Rattle.sequence.specs.Answers.{refusal, Outcome, and_then}
 use Rattle.sequence.proofs.Laws.{term_cell, check_done, check_small, same_number, refused_done}
 use Rattle.catalogue.specs.Rules.{record_bytes}
-use Rattle.merge.specs.Rules.{merged_term, merged_query, compared_of, and_then, past_buffers, merge_of, merged_in}
+use Rattle.merge.specs.Rules.{merged_term, merged_query, compared_of, past_buffers, merge_of, merged_in}
 use Rattle.merge.proofs.Laws as L
 use Rattle.merge.proofs.Laws.{Mergeable, ApartAt, Comparison, comparing, counts_told, multiple_told, terms_told, merges_told, mergeable}
 use Rattle.merge.proofs.Merger.{both_agree, term_both, term_only, merged_modulus, merged_count, merged_term_lem, merged_passes, merged_complexity}
@@ -45,7 +44,7 @@ use Rattle.guarantees.proofs.Refusals.{passed_clean, clean_passed, every_place}
 
 -- ---- two queries that are held against each other
 
-module _ (x y : List ℕ) (fx : check_of x ≡ Done) (fy : check_of y ≡ Done) where
+module _ (x y : List ℕ) (fx : check_of x ≡ Ok tt) (fy : check_of y ≡ Ok tt) where
   abbrev s : Sequence
   s = sequence_of x
 
@@ -154,7 +153,7 @@ module _ (x y : List ℕ) (fx : check_of x ≡ Done) (fy : check_of y ≡ Done) 
     abbrev z : List ℕ
     z = merged_query s t
 
-    fz : check_of z ≡ Done
+    fz : check_of z ≡ Ok tt
     fz = merged_passes s t S U a
 
     same_modulus : cell_at z 0 ≡ common_multiple (cell_at x 0) (cell_at y 0)
@@ -241,15 +240,15 @@ module _ (x y query : List ℕ) where
       go :
           (a : Bool) → eqb (length x) query_bytes ≡ a → (b : Bool) → eqb (length y) query_bytes ≡ b → (d : Bool) → eqb (length query) query_bytes ≡ d → (p : Outcome)
           → check_of x ≡ p → (q : Outcome) → check_of y ≡ q
-          → Reason x y query (pick a (pick b (pick d (and_then p (and_then q (compared_of (sequence_of x) (sequence_of y)))) (Refused R.Buffer)) (Refused R.Buffer)) (Refused R.Buffer))
+          → Reason x y query (pick a (pick b (pick d (and_then p (and_then q (compared_of (sequence_of x) (sequence_of y)))) (Err R.Buffer)) (Err R.Buffer)) (Err R.Buffer))
       go false ha b hb d hd p hp q hq = first_buffer (λ h. false_true (sym ha ∙ eq-eqb (length x) query_bytes h)) refl
       go true ha false hb d hd p hp q hq = second_buffer (λ h. false_true (sym hb ∙ eq-eqb (length y) query_bytes h)) refl
       go true ha true hb false hd p hp q hq = query_buffer (λ h. false_true (sym hd ∙ eq-eqb (length query) query_bytes h)) refl
-      go true ha true hb true hd (Refused r) hp q hq =
+      go true ha true hb true hd (Err r) hp q hq =
           first_own r (eqb-true (length x) query_bytes ha) (eqb-true (length y) query_bytes hb) (eqb-true (length query) query_bytes hd) hp refl
-      go true ha true hb true hd Done hp (Refused r) hq =
+      go true ha true hb true hd (Ok tt) hp (Err r) hq =
           second_own r (passed_clean x hp) (eqb-true (length y) query_bytes hb) (eqb-true (length query) query_bytes hd) hq refl
-      go true ha true hb true hd Done hp Done hq =
+      go true ha true hb true hd (Ok tt) hp (Ok tt) hq =
           reason_of x y hp hq query (eqb-true (length query) query_bytes hd) (compared_of (sequence_of x) (sequence_of y)) (comparing (sequence_of x) (sequence_of y))
 
   -- past 5 the reply is that of the checks, and past these that of the comparison
@@ -268,12 +267,12 @@ module _ (x y query : List ℕ) where
   exactly_told o (first_buffer h e) = rw (ne_eqb (length x) query_bytes h) (sym e)
   exactly_told o (second_buffer h e) = rw (ne_eqb (length y) query_bytes h) (go (eqb (length x) query_bytes) ∙ sym e)
     where
-      go : (a : Bool) → pick a (Refused R.Buffer) (Refused R.Buffer) ≡ Refused R.Buffer
+      go : (a : Bool) → pick a (Err R.Buffer) (Err R.Buffer) ≡ Err R.Buffer
       go true = refl
       go false = refl
   exactly_told o (query_buffer h e) = rw (ne_eqb (length query) query_bytes h) (go (eqb (length x) query_bytes) (eqb (length y) query_bytes) ∙ sym e)
     where
-      go : (a b : Bool) → pick a (pick b (Refused R.Buffer) (Refused R.Buffer)) (Refused R.Buffer) ≡ Refused R.Buffer
+      go : (a b : Bool) → pick a (pick b (Err R.Buffer) (Err R.Buffer)) (Err R.Buffer) ≡ Err R.Buffer
       go true true = refl
       go true false = refl
       go false b = refl
@@ -301,14 +300,14 @@ module _ (x y query : List ℕ) where
       })
       ∙ sym e
     where
-      fx : check_of x ≡ Done
+      fx : check_of x ≡ Ok tt
       fx = clean_passed x c.first
 
-      fy : check_of y ≡ Done
+      fy : check_of y ≡ Ok tt
       fy = clean_passed y c.second
 
   -- a reply that is no refusal of a buffer or of a query comes of the comparison
-  compared_when : (o : Outcome) → merge_of x y query ≡ o → ((r : Refusal) → (refusal r).number ≤ 5 → o ≡ Refused r → ⊥) → Comparable x y query
+  compared_when : (o : Outcome) → merge_of x y query ≡ o → ((r : Refusal) → (refusal r).number ≤ 5 → o ≡ Err r → ⊥) → Comparable x y query
   compared_when o told late = go reason_told
     where
       go : Reason x y query (merge_of x y query) → Comparable x y query
@@ -324,15 +323,15 @@ module _ (x y query : List ℕ) where
 
   -- ---- 3
 
-  wrong_told : (i : ℕ) → merge_of x y query ≡ Refused (R.Term i) → (Readable x × FirstWrong x i) ⊎ (Clean x × Readable y × FirstWrong y i)
+  wrong_told : (i : ℕ) → merge_of x y query ≡ Err (R.Term i) → (Readable x × FirstWrong x i) ⊎ (Clean x × Readable y × FirstWrong y i)
   wrong_told i told = go reason_told
     where
       -- the query's own refusal is this one
-      own : (z : List ℕ) {r : Refusal} → check_of z ≡ Refused r → merge_of x y query ≡ Refused r → Readable z × FirstWrong z i
+      own : (z : List ℕ) {r : Refusal} → check_of z ≡ Err r → merge_of x y query ≡ Err r → Readable z × FirstWrong z i
       own z h e = let p = (every_place.checked z).told_first i (h ∙ sym e ∙ told) in (p.1, p.2)
 
       -- another number than 3
-      other : {A : Type 0} {r : Refusal} → merge_of x y query ≡ Refused r → ((refusal r).number ≡ 3 → ⊥) → A
+      other : {A : Type 0} {r : Refusal} → merge_of x y query ≡ Err r → ((refusal r).number ≡ 3 → ⊥) → A
       other e k = absurd (k (same_number (sym e ∙ told)))
 
       go : Reason x y query (merge_of x y query) → (Readable x × FirstWrong x i) ⊎ (Clean x × Readable y × FirstWrong y i)
@@ -346,24 +345,24 @@ module _ (x y query : List ℕ) where
       go (M.terms k g j c d h l hg here apart before e) = other e (λ k. omega arith)
       go (M.done k g c d h l hg agree e) = refused_done (sym told ∙ e)
 
-  first_wrong_told : (i : ℕ) → Readable x → FirstWrong x i → length y ≡ query_bytes → length query ≡ query_bytes → merge_of x y query ≡ Refused (R.Term i)
-  first_wrong_told i r f hy hq = exactly_told (Refused (R.Term i)) (first_own (R.Term i) r.size hy hq ((every_place.checked x).first_told i tt r f) refl)
+  first_wrong_told : (i : ℕ) → Readable x → FirstWrong x i → length y ≡ query_bytes → length query ≡ query_bytes → merge_of x y query ≡ Err (R.Term i)
+  first_wrong_told i r f hy hq = exactly_told (Err (R.Term i)) (first_own (R.Term i) r.size hy hq ((every_place.checked x).first_told i tt r f) refl)
 
-  second_wrong_told : (i : ℕ) → Clean x → Readable y → FirstWrong y i → length query ≡ query_bytes → merge_of x y query ≡ Refused (R.Term i)
-  second_wrong_told i c r f hq = exactly_told (Refused (R.Term i)) (second_own (R.Term i) c r.size hq ((every_place.checked y).first_told i tt r f) refl)
+  second_wrong_told : (i : ℕ) → Clean x → Readable y → FirstWrong y i → length query ≡ query_bytes → merge_of x y query ≡ Err (R.Term i)
+  second_wrong_told i c r f hq = exactly_told (Err (R.Term i)) (second_own (R.Term i) c r.size hq ((every_place.checked y).first_told i tt r f) refl)
 
   -- ---- 31
 
   module _ (c : Comparable x y query) where
-    px : check_of x ≡ Done
+    px : check_of x ≡ Ok tt
     px = clean_passed x c.first
 
-    py : check_of y ≡ Done
+    py : check_of y ≡ Ok tt
     py = clean_passed y c.second
 
     none_apart_told :
         (k i : ℕ) → cell_at x 1 ≡ cell_at y 1 → LeastMultiple (cell_at x 0) (cell_at y 0) k → k ≤ max_modulus → i < cell_at x 1
-        → ((v : ℕ) → LeavesBoth x y i v → ⊥) → ((j : ℕ) → j < i → (v : ℕ) × LeavesBoth x y j v) → merge_of x y query ≡ Refused (R.TermsDisagree i)
+        → ((v : ℕ) → LeavesBoth x y i v → ⊥) → ((j : ℕ) → j < i → (v : ℕ) × LeavesBoth x y j v) → merge_of x y query ≡ Err (R.TermsDisagree i)
     unfolding sequence_of
     none_apart_told k i d h l here never before =
         held c
@@ -376,27 +375,27 @@ module _ (x y query : List ℕ) where
           before = λ j b. let w = before j b in leaves_cells x y px py d j w.0 (omega arith) w.1;
         })
 
-  module _ (i : ℕ) (told : merge_of x y query ≡ Refused (R.TermsDisagree i)) where
+  module _ (i : ℕ) (told : merge_of x y query ≡ Err (R.TermsDisagree i)) where
     c : Comparable x y query
-    c = compared_when (Refused (R.TermsDisagree i)) told (λ r h e. let n = same_number e in omega (arith, n))
+    c = compared_when (Err (R.TermsDisagree i)) told (λ r h e. let n = same_number e in omega (arith, n))
 
-    fx : check_of x ≡ Done
+    fx : check_of x ≡ Ok tt
     fx = clean_passed x c.first
 
-    fy : check_of y ≡ Done
+    fy : check_of y ≡ Ok tt
     fy = clean_passed y c.second
 
     apart_at : ApartAt (sequence_of x) (sequence_of y) i
     apart_at = go (comparing (sequence_of x) (sequence_of y))
       where
-        reply : compared_of (sequence_of x) (sequence_of y) ≡ Refused (R.TermsDisagree i)
+        reply : compared_of (sequence_of x) (sequence_of y) ≡ Err (R.TermsDisagree i)
         reply = sym (held c) ∙ told
 
         go : Comparison (sequence_of x) (sequence_of y) (compared_of (sequence_of x) (sequence_of y)) → ApartAt (sequence_of x) (sequence_of y) i
         go (L.counts d e) = absurd (let n = same_number (sym e ∙ reply) in omega (arith, n))
         go (L.multiple d l e) = absurd (let n = same_number (sym e ∙ reply) in omega (arith, n))
         go (L.terms j a e) =
-            let two : Refused (R.TermsDisagree j) ≡ Refused (R.TermsDisagree i) = sym e ∙ reply in
+            let two : Err (R.TermsDisagree j) ≡ Err (R.TermsDisagree i) = sym e ∙ reply in
             let same_place : j ≡ i = cc in
             subst (ApartAt (sequence_of x) (sequence_of y)) same_place a
         go (L.merges a e) = refused_done (sym reply ∙ e)
@@ -412,20 +411,20 @@ module _ (x y query : List ℕ) where
 
   -- ---- done
 
-  merged_told : merge_of x y query ≡ Done → IsMerged x y (merged_exit x y query)
+  merged_told : merge_of x y query ≡ Ok tt → IsMerged x y (merged_exit x y query)
   merged_told told =
       subst (λ (o : Outcome). IsMerged x y (merged_in o x y query)) (sym told)
       (is_merged x y (clean_passed x c.first) (clean_passed y c.second) (mergeable (sequence_of x) (sequence_of y) (sym (held c) ∙ told)))
     where
       c : Comparable x y query
-      c = compared_when Done told (λ r h e. refused_done (sym e))
+      c = compared_when (Ok tt) told (λ r h e. refused_done (sym e))
 
-  kept_told : (merge_of x y query ≡ Done → ⊥) → merged_exit x y query ≡ query
+  kept_told : (merge_of x y query ≡ Ok tt → ⊥) → merged_exit x y query ≡ query
   kept_told other = go (merge_of x y query) refl
     where
       go : (o : Outcome) → merge_of x y query ≡ o → merged_in o x y query ≡ query
-      go Done e = absurd (other e)
-      go (Refused r) e = refl
+      go (Ok tt) e = absurd (other e)
+      go (Err r) e = refl
 
 pub two_queries : TwoQueries
 unfolding TwoQueries

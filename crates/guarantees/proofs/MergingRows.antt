@@ -6,6 +6,7 @@ use Prim.Native.Nat.{ℕ, ◌+◌, ◌%◌, ◌≤◌, ◌<◌}
 use native.Mathlib.Nat.{mod-one}
 use native.Mathlib.Omega.{arith}
 use lib.ListN.{length-replicate}
+use Rattle.std.specs.Prelude.{Ok, Err}
 use Rattle.lists.specs.Table.{tabulate, largest}
 use Rattle.lists.specs.Search.{first, all, every}
 use Rattle.lists.specs.Sum.{sum_to}
@@ -21,7 +22,6 @@ use Rattle.recurrence.specs.Polynomial.{conv, plus, times, up, top, degree, len}
 use Rattle.recurrence.specs.Steps.{discrepancy, case_of, partner, multiplier, change, remembered, older, no_older, next, history, row_at}
 use Rattle.recurrence.specs.Register.{part, parts, complexity, register}
 use Rattle.sequence.specs.declared.Refusal.TheVariants as R
-use Rattle.sequence.specs.declared.Outcome.TheVariants.{Done, Refused}
 use Rattle.sequence.specs.Limits.{max_modulus, query_bytes}
 use Rattle.sequence.specs.Answers.{granted, refused, outcome_answer, first_of}
 use Rattle.sequence.specs.Rules.{fault_of, check_of, open_of, push_of, query_of, sequence_of}
@@ -38,7 +38,7 @@ use Rattle.guarantees.proofs.Merging.{divisor, multiple, two_queries}
 
 -- ---- multiples that are too large to search for
 
-module _ (x y : List ℕ) (fx : check_of x ≡ Done) (fy : check_of y ≡ Done) (counts : cell_at x 1 ≡ cell_at y 1) where
+module _ (x y : List ℕ) (fx : check_of x ≡ Ok tt) (fy : check_of y ≡ Ok tt) (counts : cell_at x 1 ≡ cell_at y 1) where
   held : Comparable x y (zeros query_bytes)
   held = record { first = passed_clean x fx; second = passed_clean y fy; buffer = length-replicate {A = ℕ} query_bytes 0 }
 
@@ -46,14 +46,14 @@ module _ (x y : List ℕ) (fx : check_of x ≡ Done) (fy : check_of y ≡ Done) 
   unfolding TwoQueries
   above h =
       sym (two_queries x y (zeros query_bytes)).by_number
-      ∙ ap outcome_answer ((two_queries x y (zeros query_bytes)).exactly (Refused R.MultipleAbove)
+      ∙ ap outcome_answer ((two_queries x y (zeros query_bytes)).exactly (Err R.MultipleAbove)
       (M.multiple (common_multiple (cell_at x 0) (cell_at y 0)) held counts (multiple x y fx fy) h refl))
 
   within : common_multiple (cell_at x 0) (cell_at y 0) ≤ max_modulus → common_divisor (cell_at x 0) (cell_at y 0) ≡ 1 → answer_to x y ≡ granted []
   unfolding TwoQueries
   within h one =
       sym (two_queries x y (zeros query_bytes)).by_number
-      ∙ ap outcome_answer ((two_queries x y (zeros query_bytes)).exactly Done
+      ∙ ap outcome_answer ((two_queries x y (zeros query_bytes)).exactly (Ok tt)
       (M.done (common_multiple (cell_at x 0) (cell_at y 0)) (common_divisor (cell_at x 0) (cell_at y 0)) held counts (multiple x y fx fy) h (divisor x y fx fy)
       (λ j l. ap (λ (g : ℕ). cell_at x (2 + j) % g) one ∙ mod-one (cell_at x (2 + j)) ∙ sym (ap (λ (g : ℕ). cell_at y (2 + j) % g) one ∙ mod-one (cell_at y (2 + j)))) refl))
 

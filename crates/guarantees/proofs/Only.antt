@@ -23,7 +23,6 @@ use Rattle.counting.specs.Solutions.{Solves, NoSecond, Second}
 use Rattle.counting.proofs.Solutions.{counts_lists, own, own_is, own_solution, how_many, own_only, second}
 use Rattle.sequence.specs.declared.Uniqueness.{Uniqueness}
 use Rattle.sequence.specs.declared.Uniqueness.TheVariants.{Sole, Several, NotTold}
-use Rattle.sequence.specs.declared.Reported.{Reported}
 use Rattle.sequence.specs.Limits.{max_modulus, max_terms, max_cells, profile_bytes}
 use Rattle.sequence.specs.Report.{uniqueness_of, length_told}
 use Rattle.sequence.proofs.OnlyOne.{said_sole, said_several, said_nothing, said_apart}
@@ -33,6 +32,7 @@ use Rattle.guarantees.specs.Only.{ToldOf, list_in, Says, TheOnlyOne}
 use Rattle.guarantees.proofs.State.{good}
 use Rattle.guarantees.proofs.Demand.{demand}
 use Rattle.guarantees.proofs.Working.{working}
+use Rattle.sequence.specs.Answers.{Reported}
 
 module _ (m : ℕ) (big : 2 ≤ m) (ts : List ℕ) where
   abbrev n : ℕ

@@ -10,6 +10,7 @@ use native.Mathlib.Omega.{arith}
 use lib.ListN.{length, replicate, length-replicate, length-append, get_or-append}
 use lib.Seq.{get_or-append-add}
 use borrow.Author.Tests.{eq-eqb}
+use Rattle.std.specs.Prelude.{Ok, Err}
 use Rattle.lists.specs.Table.{at}
 use Rattle.lists.specs.Search.{first}
 use Rattle.lists.proofs.Search.{lt_or_le}
@@ -22,10 +23,8 @@ use Rattle.recurrence.specs.Register as T
 use Rattle.recurrence.proofs.Length.{least_unique}
 use Rattle.recurrence.proofs.Register.{register_right}
 use Rattle.sequence.specs.declared.Refusal.TheVariants as R
-use Rattle.sequence.specs.declared.Outcome.TheVariants.{Done}
 use Rattle.sequence.specs.declared.Uniqueness.{Uniqueness}
 use Rattle.sequence.specs.declared.Uniqueness.TheVariants.{Sole}
-use Rattle.sequence.specs.declared.Reported.TheVariants as P
 use Rattle.sequence.specs.Limits.{max_terms, a_bytes, b_bytes, profile_bytes}
 use Rattle.sequence.specs.Rules.{first_large, open_of, check_of}
 use Rattle.sequence.specs.Report.{uniqueness_of, report_of}
@@ -33,10 +32,8 @@ use Rattle.sequence.proofs.OnlyOne.{said_sole}
 use Rattle.sequence.proofs.Query.{query_modulus, query_passes}
 use Rattle.column.specs.Rules.{terms_in}
 use Rattle.catalogue.specs.Rules.{record_bytes}
-use Rattle.period.specs.declared.Measured.{Measured}
-use Rattle.period.specs.declared.Measured.TheVariants.{Length, Refused}
 use Rattle.period.specs.Halving.{halving}
-use Rattle.period.specs.Rules.{exponent, digits_in, measured_answer, period_length_of, period_length_answer}
+use Rattle.period.specs.Rules.{exponent, digits_in, measured_answer, period_length_of, period_length_answer, Measured}
 use Rattle.period.proofs.Laws as L
 use Rattle.period.proofs.Answers.{period_told}
 use Rattle.codes.specs.Codes.{length_code_of}
@@ -47,6 +44,7 @@ use Rattle.guarantees.specs.Periods.{IsPeriod, Digits, Reason, odd, other, digit
 use Rattle.guarantees.proofs.Columns.{each_whole}
 use Rattle.guarantees.proofs.Demand.{demand}
 use Rattle.guarantees.proofs.Shown.{count_is, made_least, query_terms}
+use Rattle.sequence.specs.Answers.{of_length}
 
 -- ---- whole periods, lent as columns
 
@@ -117,8 +115,8 @@ module _ (cells : List ℕ) (n w : ℕ) (p : IsPeriod cells n w) (small : Digits
   small_power : Digits cells (2 ^ w)
   small_power = subst (Digits cells) p.power small
 
-  pub length_told_lem : period_length_of cells ≡ Length l
-  length_told_lem = at_power (λ k. period_length_of cells ≡ Length (halving w (cells_from cells 0 k))) (L.length_told_lem (law_period p) small_power)
+  pub length_told_lem : period_length_of cells ≡ Ok l
+  length_told_lem = at_power (λ k. period_length_of cells ≡ Ok (halving w (cells_from cells 0 k))) (L.length_told_lem (law_period p) small_power)
 
   least_length : (ts : List ℕ) (k : ℕ) → Repeats cells n ts → 2 * n ≤ k → k ≤ length ts → Least 2 (at ts) k l
   least_length ts k r enough h =
@@ -146,10 +144,10 @@ module _ (cells : List ℕ) (n w : ℕ) (p : IsPeriod cells n w) (small : Digits
     unfolding first least_divisor
     sole = said_sole (is_prime 2) (length ts) l refl (omega (arith, short, r.twice))
 
-    reported : (a b : List ℕ) → length a ≡ a_bytes → length b ≡ b_bytes → report_of (after_all (open_of 2).sequence calls) a b ≡ P.Length l Sole
+    reported : (a b : List ℕ) → length a ≡ a_bytes → length b ≡ b_bytes → report_of (after_all (open_of 2).sequence calls) a b ≡ of_length l Sole
     reported a b ha hb =
         (shown a b (replicate profile_bytes 0) ha hb (length-replicate {A = ℕ} profile_bytes 0)).reported
-        ∙ ap (λ (k : ℕ). P.Length k (uniqueness_of 2 (length ts) k)) all_terms ∙ ap (λ (u : Uniqueness). P.Length l u) sole
+        ∙ ap (λ (k : ℕ). of_length k (uniqueness_of 2 (length ts) k)) all_terms ∙ ap (λ (u : Uniqueness). of_length l u) sole
 
     profiled : (lent : List ℕ) (k : ℕ) → length lent ≡ profile_bytes → 2 * n ≤ k → k ≤ length ts → profile_cell 2 calls lent k ≡ l
     profiled lent k h enough b =
@@ -157,7 +155,7 @@ module _ (cells : List ℕ) (n w : ℕ) (p : IsPeriod cells n w) (small : Digits
         ((shown (replicate a_bytes 0) (replicate b_bytes 0) lent (length-replicate {A = ℕ} a_bytes 0) (length-replicate {A = ℕ} b_bytes 0) h).least k b)
         (least_length ts k r enough b)
 
-  made : (query out : List ℕ) → check_of query ≡ Done → cell_at query 0 ≡ 2 → Repeats cells n (terms_of query) → length out ≡ record_bytes → length_made query out ≡ l
+  made : (query out : List ℕ) → check_of query ≡ Ok tt → cell_at query 0 ≡ 2 → Repeats cells n (terms_of query) → length out ≡ record_bytes → length_made query out ≡ l
   made query out fine two r h =
       least_unique 2 (at (terms_of query)) (cell_at query 1) (length_made query out) l
       (subst (λ (m : ℕ). Least m (at (terms_of query)) (cell_at query 1) (length_made query out)) two (made_least query fine out h))
@@ -229,7 +227,7 @@ module _ (cells : List ℕ) where
       half : n ≡ k
       half = omega arith
 
-      go : Dec (exponent n < 7) → period_length_of cells ≡ Refused R.Period
+      go : Dec (exponent n < 7) → period_length_of cells ≡ Err R.Period
       go (yes h) = absurd (none (exponent n) (record { size = size; power = sym half ∙ L.exponent_power n h; below = h }))
       go (no h) = sym (L.reply_period cells (omega arith) (exponent n) refl (omega arith))
   exactly r (digit k w j p b large before e) = L.large_told (law_period p) j (omega (arith, p.power)) large before ∙ sym e
@@ -248,8 +246,8 @@ module _ (cells : List ℕ) where
         exactly = exactly;
         legal = λ k w p small. (halving w (cells_from cells 0 k), (length_told_lem cells k w p small, desk_length cells k w p small));
         by_number = by_number;
-        length_code = λ l e. coded (Length l) e ∙ sym (length_valued l);
-        refused_code = λ r e. coded (Refused r) e ∙ length_refused r;
+        length_code = λ l e. coded (Ok l) e ∙ sym (length_valued l);
+        refused_code = λ r e. coded (Err r) e ∙ length_refused r;
       }
 
 pub binary_periods : BinaryPeriods

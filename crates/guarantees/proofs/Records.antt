@@ -11,6 +11,7 @@ use lib.Dec.{eqb}
 use lib.ListN.{length, take, drop, replicate, length-append, length-drop, length-replicate, get_or-replicate}
 use lib.Seq.{ext_get_or, length-take-le, get_or-take, get_or-append-add}
 use borrow.Author.Tests.{eq-eqb, ne_eqb, lt-ltb, le-ltb}
+use Rattle.std.specs.Prelude.{Some, None, Ok, Err}
 use Rattle.lists.specs.Choice.{pick}
 use Rattle.lists.specs.Table.{at, tabulate}
 use Rattle.lists.proofs.Table.{length_tabulate, at_tabulate_all}
@@ -23,19 +24,13 @@ use Rattle.recurrence.specs.Running.{first_difference}
 use Rattle.recurrence.proofs.Register.{Right, register_right}
 use Rattle.sequence.specs.declared.Sequence.{Sequence}
 use Rattle.sequence.specs.declared.Refusal.TheVariants as R
-use Rattle.sequence.specs.declared.Outcome.{Outcome}
-use Rattle.sequence.specs.declared.Outcome.TheVariants.{Done, Refused}
-use Rattle.sequence.specs.declared.Reported.{Reported}
 use Rattle.sequence.specs.Limits.{max_modulus, query_bytes, a_bytes, b_bytes, max_cells, max_terms}
 use Rattle.sequence.specs.Rules.{open_of, sequence_of, check_of, IsSound}
-use Rattle.sequence.specs.Report.{length_told, register_of, a_buffer, b_buffer, report_of, written, filled}
+use Rattle.sequence.specs.Report.{length_told, register_of, a_buffer, b_buffer, report_of, filled}
 use Rattle.sequence.proofs.Laws.{check_done}
-use Rattle.candidate.specs.declared.Verdict.TheVariants as W
 use Rattle.candidate.specs.Rules.{a_cells, b_cells, IsFine, judge_of}
 use Rattle.candidate.proofs.Laws.{of_fine, no_difference}
-use Rattle.catalogue.specs.declared.LookedUp.{LookedUp}
-use Rattle.catalogue.specs.declared.LookedUp.TheVariants.{Found, Made}
-use Rattle.catalogue.specs.Rules.{record_bytes, body, no_number, layout, record_of, synthesize_of, record_at, is_of, records, first_match, match_of, passes, serve_of, fetch_of, look_up_of, editor, seen_by, served_in}
+use Rattle.catalogue.specs.Rules.{record_bytes, body, no_number, layout, record_of, synthesize_of, record_at, is_of, records, first_match, match_of, passes, serve_of, fetch_of, look_up_of, editor, seen_by, served_in, LookedUp}
 use Rattle.catalogue.proofs.Refusals.{synthesize_query}
 use Rattle.catalogue.proofs.Places.{entry_query, entry_a, entry_b, entry_length_cell, made_body}
 use Rattle.catalogue.proofs.Visitors.{body_seen}
@@ -43,8 +38,9 @@ use Rattle.guarantees.specs.Calls.{Call, push, after_all, taken}
 use Rattle.guarantees.specs.Claims.{MadeRecord, MadeCatalogue, terms_of, AgreesWith, MadeServedReported}
 use Rattle.guarantees.proofs.State.{holding, padded, padded_at, Good, state, all_pushed}
 use Rattle.guarantees.proofs.Demand.{reported, same_register}
+use Rattle.sequence.specs.Answers.{Outcome, Reported}
 
-module _ (query : List ℕ) (fine : check_of query ≡ Done) where
+module _ (query : List ℕ) (fine : check_of query ≡ Ok tt) where
   s : Sequence
   s = sequence_of query
 
@@ -127,9 +123,9 @@ module _ (query : List ℕ) (fine : check_of query ≡ Done) where
       record {
         length_same = answer ∙ ap (length_told (cell_at query 0) (length (taken (cell_at query 0) calls))) (sym (entry_length_cell query (sequence_of query) size entry same small));
         a_same =
-            ap₂ (λ (r : Reported) (t : Sequence). written r (a_buffer t) a) answer reached ∙ sym (entry_a query (sequence_of query) size entry same);
+            ap₂ (λ (r : Reported) (t : Sequence). filled r (a_buffer t) a) answer reached ∙ sym (entry_a query (sequence_of query) size entry same);
         b_same =
-            ap₂ (λ (r : Reported) (t : Sequence). written r (b_buffer t) b) answer reached ∙ sym (entry_b query (sequence_of query) size entry same);
+            ap₂ (λ (r : Reported) (t : Sequence). filled r (b_buffer t) b) answer reached ∙ sym (entry_b query (sequence_of query) size entry same);
       }
     where
       reached : after_all (open_of (cell_at query 0)).sequence calls ≡ sequence_of query
@@ -182,7 +178,7 @@ module _ (query : List ℕ) (fine : check_of query ≡ Done) where
       (λ j h. ap (λ (f : ℕ → ℕ). conv (at (sequence_of query).terms) f j % (sequence_of query).modulus) (fun_ext a_all)
       ∙ (right.generates j h).same ∙ mod-eq_of_lt (right.small_b j) ∙ sym (b_all j))
 
-  judged : judge_of (sequence_of query) (a_cells (a_buffer (sequence_of query))) (b_cells (b_buffer (sequence_of query))) (register_of (sequence_of query)).length ≡ W.Yes
+  judged : judge_of (sequence_of query) (a_cells (a_buffer (sequence_of query))) (b_cells (b_buffer (sequence_of query))) (register_of (sequence_of query)).length ≡ Ok None
   unfolding judge_of
   judged =
       ap₂ (λ (a b : List ℕ). judge_of (sequence_of query) a b (register_of (sequence_of query)).length) a_back b_back
@@ -200,18 +196,18 @@ module _ (query : List ℕ) (fine : check_of query ≡ Done) where
 
 -- ---- making
 
-pub making : (query out : List ℕ) → check_of query ≡ Done → length out ≡ record_bytes → synthesize_of query out ≡ Done
+pub making : (query out : List ℕ) → check_of query ≡ Ok tt → length out ≡ record_bytes → synthesize_of query out ≡ Ok tt
 making query out fine h = synthesize_query query out h ∙ fine
 
-pub making_checked : (query out : List ℕ) → synthesize_of query out ≡ Done → check_of query ≡ Done
+pub making_checked : (query out : List ℕ) → synthesize_of query out ≡ Ok tt → check_of query ≡ Ok tt
 unfolding synthesize_of
 making_checked query out h = go (eqb (length out) record_bytes) h
   where
-    go : (t : Bool) → pick t (check_of query) (Refused R.Buffer) ≡ Done → check_of query ≡ Done
+    go : (t : Bool) → pick t (check_of query) (Err R.Buffer) ≡ Ok tt → check_of query ≡ Ok tt
     go true h = h
     go false h = let z : ◌≡◌ {A = ℕ} 0 1 = cc in absurd (omega arith)
 
-pub made_record : (query out : List ℕ) → check_of query ≡ Done → length out ≡ record_bytes → filled (synthesize_of query out) (record_of query) out ≡ record_of query
+pub made_record : (query out : List ℕ) → check_of query ≡ Ok tt → length out ≡ record_bytes → filled (synthesize_of query out) (record_of query) out ≡ record_of query
 made_record query out fine h = ap (λ (t : Outcome). filled t (record_of query) out) (making query out fine h)
 
 -- a made record with this query in front has the body of the record of this query
@@ -233,7 +229,7 @@ empty_made = record { whole = refl; each = λ i h. absurd (not-suc-le-zero h) }
 
 -- ---- serving
 
-module _ (query catalogue : List ℕ) (who : ℕ) (out : List ℕ) (fine : check_of query ≡ Done) (made : MadeCatalogue catalogue) (long : length out ≡ record_bytes) where
+module _ (query catalogue : List ℕ) (who : ℕ) (out : List ℕ) (fine : check_of query ≡ Ok tt) (made : MadeCatalogue catalogue) (long : length out ≡ record_bytes) where
   looked : look_up_of query catalogue out ≡ serve_of (sequence_of query) catalogue (match_of (records catalogue) (first_match query catalogue (records catalogue)))
   unfolding look_up_of fetch_of
   looked = rw (eq-eqb (length out) record_bytes long, fine, eq-eqb (length catalogue % record_bytes) 0 made.whole)
@@ -263,7 +259,7 @@ module _ (query catalogue : List ℕ) (who : ℕ) (out : List ℕ) (fine : check
   visitor_seen v h = rw (ne_eqb who editor v) (ap (λ (b : List ℕ). b ++ no_number) (found_body h))
 
   -- the reply, and the record served: its body, and for a visitor all of it
-  pub outcome : (((j : ℕ) × (look_up_of query catalogue out ≡ Found j)) ⊎ (look_up_of query catalogue out ≡ Made))
+  pub outcome : (((j : ℕ) × (look_up_of query catalogue out ≡ Ok (Some j))) ⊎ (look_up_of query catalogue out ≡ Ok None))
       × (body (served_in who (look_up_of query catalogue out) query catalogue out) ≡ layout query (sequence_of query))
       × ((who ≡ editor → ⊥) → served_in who (look_up_of query catalogue out) query catalogue out ≡ record_of query)
   outcome = go (lt_or_le j (records catalogue))
@@ -272,7 +268,7 @@ module _ (query catalogue : List ℕ) (who : ℕ) (out : List ℕ) (fine : check
       j = first_match query catalogue (records catalogue)
 
       go : (j < records catalogue) ⊎ (records catalogue ≤ j)
-          → (((j : ℕ) × (look_up_of query catalogue out ≡ Found j)) ⊎ (look_up_of query catalogue out ≡ Made))
+          → (((j : ℕ) × (look_up_of query catalogue out ≡ Ok (Some j))) ⊎ (look_up_of query catalogue out ≡ Ok None))
           × (body (served_in who (look_up_of query catalogue out) query catalogue out) ≡ layout query (sequence_of query))
           × ((who ≡ editor → ⊥) → served_in who (look_up_of query catalogue out) query catalogue out ≡ record_of query)
       go (inl h) = (
@@ -281,7 +277,7 @@ module _ (query catalogue : List ℕ) (who : ℕ) (out : List ℕ) (fine : check
         λ v. ap (λ (t : LookedUp). served_in who t query catalogue out) at_j ∙ visitor_seen v h,
       )
         where
-          at_j : look_up_of query catalogue out ≡ Found j
+          at_j : look_up_of query catalogue out ≡ Ok (Some j)
           at_j = looked ∙ rw (lt-ltb j (records catalogue) h, record_passes query fine (record_at catalogue j) (found_body h))
       go (inr h) = (
         inr none,
@@ -289,7 +285,7 @@ module _ (query catalogue : List ℕ) (who : ℕ) (out : List ℕ) (fine : check
         λ v. ap (λ (t : LookedUp). served_in who t query catalogue out) none,
       )
         where
-          none : look_up_of query catalogue out ≡ Made
+          none : look_up_of query catalogue out ≡ Ok None
           none = looked ∙ rw (le-ltb j (records catalogue) h)
 
 pub same : MadeServedReported
@@ -305,7 +301,7 @@ same query catalogue who out fine made long =
       visitor_served = λ v. o.2 v ∙ sym (made_record query out fine long);
     }
   where
-    o : (((j : ℕ) × (look_up_of query catalogue out ≡ Found j)) ⊎ (look_up_of query catalogue out ≡ Made))
+    o : (((j : ℕ) × (look_up_of query catalogue out ≡ Ok (Some j))) ⊎ (look_up_of query catalogue out ≡ Ok None))
         × (body (served_in who (look_up_of query catalogue out) query catalogue out) ≡ layout query (sequence_of query))
         × ((who ≡ editor → ⊥) → served_in who (look_up_of query catalogue out) query catalogue out ≡ record_of query)
     o = outcome query catalogue who out fine made long

@@ -9,25 +9,22 @@ use native.Mathlib.Omega.{arith}
 use lib.Dec.{leb}
 use lib.ListN.{length}
 use borrow.Author.Tests.{leb-true, leb-false, le-leb}
+use Rattle.std.specs.Prelude.{None, Ok, Err}
 use Rattle.lists.specs.Search.{first}
 use Rattle.lists.proofs.Search.{first_before, first_found}
 use Rattle.cells.specs.Cell.{cell_at}
 use Rattle.sequence.specs.declared.Sequence.{Sequence}
 use Rattle.sequence.specs.declared.Refusal.{Refusal}
 use Rattle.sequence.specs.declared.Refusal.TheVariants as R
-use Rattle.sequence.specs.declared.Outcome.{Outcome}
-use Rattle.sequence.specs.declared.Outcome.TheVariants as O
 use Rattle.sequence.specs.declared.Pushed.{Pushed}
 use Rattle.sequence.specs.Limits.{max_modulus, max_terms, query_bytes, a_bytes, b_bytes}
-use Rattle.sequence.specs.Answers.{refused, refusal}
+use Rattle.sequence.specs.Answers.{refused, refusal, Outcome}
 use Rattle.sequence.specs.Rules.{IsSound, open_of, push_of, sequence_of, check_of}
 use Rattle.sequence.proofs.Laws.{term_cell, TermAt, term_check, check_term, check_small, check_done, done_check, same_number, refused_done, Push, unsound, full, large, done, pushing, push_large, sound_of}
-use Rattle.candidate.specs.declared.Verdict.TheVariants as W
 use Rattle.candidate.specs.Rules.{a_cells, b_cells, flaw_of, IsFine, verify_of, generate_of}
 use Rattle.candidate.proofs.Laws.{Found, long, coefficient, lead, fine, found}
 use Rattle.candidate.proofs.Refusals.{flaw_large, told_long, long_told, told_coefficient, coefficient_told, told_lead, lead_told, told_malformed, VerifyRefused, verify_query, verify_flaw, verify_refused, generate_refused}
 use Rattle.candidate.proofs.Testing.{generate_flaw}
-use Rattle.catalogue.specs.declared.LookedUp.TheVariants as S
 use Rattle.catalogue.specs.Rules.{record_bytes, records, record_at, first_match, passes, synthesize_of, look_up_of}
 use Rattle.catalogue.proofs.Refusals.{synthesize_query, synthesize_refused, LookUpRefused, look_up_query, look_up_refused, look_up_fails, fails_look_up, not_yes, yes_not}
 use Rattle.codes.specs.Codes.{last_place}
@@ -99,7 +96,7 @@ first_term query i r f =
     }
 
 -- a query that passes its checks is clean
-pub passed_clean : (query : List ℕ) → check_of query ≡ O.Done → Clean query
+pub passed_clean : (query : List ℕ) → check_of query ≡ Ok tt → Clean query
 unfolding sequence_of
 passed_clean query h =
     record {
@@ -111,7 +108,7 @@ passed_clean query h =
     k : (length query ≡ query_bytes) × IsSound (sequence_of query)
     k = check_done query h
 
-pub clean_passed : (query : List ℕ) → Clean query → check_of query ≡ O.Done
+pub clean_passed : (query : List ℕ) → Clean query → check_of query ≡ Ok tt
 unfolding sequence_of
 clean_passed query c =
     done_check query c.readable.size
@@ -145,8 +142,8 @@ first_wrong query j w = (
 -- a call that passes the query's refusals on, and gives 3 in no other way
 placed :
     {A : Type 0} (refused : Refusal → A) (reply : A) (lent : Type 0) (query : List ℕ)
-    → ((i : ℕ) → reply ≡ refused (R.Term i) → lent × (check_of query ≡ O.Refused (R.Term i)))
-    → ((i : ℕ) → lent → check_of query ≡ O.Refused (R.Term i) → reply ≡ refused (R.Term i))
+    → ((i : ℕ) → reply ≡ refused (R.Term i) → lent × (check_of query ≡ Err (R.Term i)))
+    → ((i : ℕ) → lent → check_of query ≡ Err (R.Term i) → reply ≡ refused (R.Term i))
     → Placed refused reply lent query
 placed refused reply lent query back on =
     record {
@@ -158,44 +155,44 @@ placed refused reply lent query back on =
     told : (i : ℕ) → lent → Readable query → FirstWrong query i → reply ≡ refused (R.Term i)
     told i l r f = on i l (check_term query i r.size (first_term query i r f))
 
-synthesized : (query out : List ℕ) → Placed O.Refused (synthesize_of query out) (length out ≡ record_bytes) query
+synthesized : (query out : List ℕ) → Placed Err (synthesize_of query out) (length out ≡ record_bytes) query
 synthesized query out =
-    placed O.Refused (synthesize_of query out) (length out ≡ record_bytes) query
+    placed Err (synthesize_of query out) (length out ≡ record_bytes) query
     (λ i e. synthesize_refused query out e (λ k. omega arith))
     (λ i l e. synthesize_query query out l ∙ e)
 
-looked_up : (query catalogue out : List ℕ) → Placed S.Refused (look_up_of query catalogue out) (length out ≡ record_bytes) query
+looked_up : (query catalogue out : List ℕ) → Placed Err (look_up_of query catalogue out) (length out ≡ record_bytes) query
 looked_up query catalogue out =
-    placed S.Refused (look_up_of query catalogue out) (length out ≡ record_bytes) query back (λ i l e. look_up_query query catalogue out l e)
+    placed Err (look_up_of query catalogue out) (length out ≡ record_bytes) query back (λ i l e. look_up_query query catalogue out l e)
   where
-    back : (i : ℕ) → look_up_of query catalogue out ≡ S.Refused (R.Term i) → (length out ≡ record_bytes) × (check_of query ≡ O.Refused (R.Term i))
+    back : (i : ℕ) → look_up_of query catalogue out ≡ Err (R.Term i) → (length out ≡ record_bytes) × (check_of query ≡ Err (R.Term i))
     back i e = go (look_up_refused query catalogue out e (λ k. omega arith))
       where
-        go : LookUpRefused query catalogue out (R.Term i) → (length out ≡ record_bytes) × (check_of query ≡ O.Refused (R.Term i))
+        go : LookUpRefused query catalogue out (R.Term i) → (length out ≡ record_bytes) × (check_of query ≡ Err (R.Term i))
         go h = (h.size, from h.source)
           where
-            from : (check_of query ≡ O.Refused (R.Term i)) ⊎ ((O.Refused R.Catalogue ≡ O.Refused (R.Term i)) ⊎ (O.Refused R.Record ≡ O.Refused (R.Term i))) → check_of query ≡ O.Refused (R.Term i)
+            from : (check_of query ≡ Err (R.Term i)) ⊎ ((Err R.Catalogue ≡ Err (R.Term i)) ⊎ (Err R.Record ≡ Err (R.Term i))) → check_of query ≡ Err (R.Term i)
             from (inl k) = k
             from (inr (inl k)) = absurd (omega (arith, same_number k))
             from (inr (inr k)) = absurd (omega (arith, same_number k))
 
-verified : (query a b : List ℕ) (l : ℕ) → Placed W.Refused (verify_of query a b l) ((length a ≡ a_bytes) × (length b ≡ b_bytes)) query
+verified : (query a b : List ℕ) (l : ℕ) → Placed Err (verify_of query a b l) ((length a ≡ a_bytes) × (length b ≡ b_bytes)) query
 verified query a b l =
-    placed W.Refused (verify_of query a b l) ((length a ≡ a_bytes) × (length b ≡ b_bytes)) query back (λ i h e. verify_query query a b l h.0 h.1 e)
+    placed Err (verify_of query a b l) ((length a ≡ a_bytes) × (length b ≡ b_bytes)) query back (λ i h e. verify_query query a b l h.0 h.1 e)
   where
-    back : (i : ℕ) → verify_of query a b l ≡ W.Refused (R.Term i) → ((length a ≡ a_bytes) × (length b ≡ b_bytes)) × (check_of query ≡ O.Refused (R.Term i))
+    back : (i : ℕ) → verify_of query a b l ≡ Err (R.Term i) → ((length a ≡ a_bytes) × (length b ≡ b_bytes)) × (check_of query ≡ Err (R.Term i))
     back i e = go (verify_refused query a b l e (λ k. omega arith))
       where
-        from : (check_of query ≡ O.Refused (R.Term i)) ⊎ ((check_of query ≡ O.Done) × (flaw_of (sequence_of query).modulus l (a_cells a) (b_cells b) ≡ O.Refused (R.Term i))) → check_of query ≡ O.Refused (R.Term i)
+        from : (check_of query ≡ Err (R.Term i)) ⊎ ((check_of query ≡ Ok tt) × (flaw_of (sequence_of query).modulus l (a_cells a) (b_cells b) ≡ Err (R.Term i))) → check_of query ≡ Err (R.Term i)
         from (inl k) = k
         from (inr k) = absurd (omega (arith, flaw_large (sequence_of query).modulus l (a_cells a) (b_cells b) k.1))
 
-        go : VerifyRefused query a b l (R.Term i) → ((length a ≡ a_bytes) × (length b ≡ b_bytes)) × (check_of query ≡ O.Refused (R.Term i))
+        go : VerifyRefused query a b l (R.Term i) → ((length a ≡ a_bytes) × (length b ≡ b_bytes)) × (check_of query ≡ Err (R.Term i))
         go h = ((h.a_size, h.b_size), from h.source)
 
 -- ---- pushes
 
-push_told : (s : Sequence) (t i : ℕ) → (push_of s t).outcome ≡ O.Refused (R.Term i) → IsSound s × (s.count < max_terms) × (s.modulus ≤ t) × (i ≡ s.count)
+push_told : (s : Sequence) (t i : ℕ) → (push_of s t).outcome ≡ Err (R.Term i) → IsSound s × (s.count < max_terms) × (s.modulus ≤ t) × (i ≡ s.count)
 push_told s t i h = go (pushing s t)
   where
     go : Push s t (push_of s t).outcome → IsSound s × (s.count < max_terms) × (s.modulus ≤ t) × (i ≡ s.count)
@@ -224,7 +221,7 @@ every_place =
     record {
       passed_clean = passed_clean;
       clean_passed = clean_passed;
-      checked = λ query. placed O.Refused (check_of query) (Unit {0}) query (λ i e. (tt, e)) (λ i l e. e);
+      checked = λ query. placed Err (check_of query) (Unit {0}) query (λ i e. (tt, e)) (λ i l e. e);
       synthesized = synthesized;
       looked_up = looked_up;
       verified = verified;
@@ -238,8 +235,8 @@ every_place =
 -- a call that passes the candidate's refusals on, once they are reached, and gives them in no other way
 flawed :
     {A : Type 0} (refused : Refusal → A) (reply : A) (reached : Type 0) (m l : ℕ) (a b : List ℕ)
-    → ((r : Refusal) → 5 < (refusal r).number → reply ≡ refused r → reached × (flaw_of m l a b ≡ O.Refused r))
-    → ((r : Refusal) → reached → flaw_of m l a b ≡ O.Refused r → reply ≡ refused r)
+    → ((r : Refusal) → 5 < (refusal r).number → reply ≡ refused r → reached × (flaw_of m l a b ≡ Err r))
+    → ((r : Refusal) → reached → flaw_of m l a b ≡ Err r → reply ≡ refused r)
     → Flawed refused reply reached m l a b
 flawed refused reply reached m l a b back on =
     record {
@@ -269,59 +266,59 @@ flawed refused reply reached m l a b back on =
 
 tested :
     (query a b : List ℕ) (l : ℕ)
-    → Flawed W.Refused (verify_of query a b l) ((length a ≡ a_bytes) × (length b ≡ b_bytes) × Clean query) (cell_at query 0) l (a_cells a) (b_cells b)
+    → Flawed Err (verify_of query a b l) ((length a ≡ a_bytes) × (length b ≡ b_bytes) × Clean query) (cell_at query 0) l (a_cells a) (b_cells b)
 unfolding sequence_of
 tested query a b l =
-    flawed W.Refused (verify_of query a b l) ((length a ≡ a_bytes) × (length b ≡ b_bytes) × Clean query) (cell_at query 0) l (a_cells a) (b_cells b)
+    flawed Err (verify_of query a b l) ((length a ≡ a_bytes) × (length b ≡ b_bytes) × Clean query) (cell_at query 0) l (a_cells a) (b_cells b)
     back (λ r h e. verify_flaw query a b l h.0 h.1 (clean_passed query h.2) e)
   where
     flaw : Outcome
     flaw = flaw_of (cell_at query 0) l (a_cells a) (b_cells b)
 
-    back : (r : Refusal) → 5 < (refusal r).number → verify_of query a b l ≡ W.Refused r → ((length a ≡ a_bytes) × (length b ≡ b_bytes) × Clean query) × (flaw ≡ O.Refused r)
+    back : (r : Refusal) → 5 < (refusal r).number → verify_of query a b l ≡ Err r → ((length a ≡ a_bytes) × (length b ≡ b_bytes) × Clean query) × (flaw ≡ Err r)
     back r n e = go v.source
       where
         v : VerifyRefused query a b l r
         v = verify_refused query a b l e (λ k. omega (arith, n, k))
 
-        go : (check_of query ≡ O.Refused r) ⊎ ((check_of query ≡ O.Done) × (flaw_of (sequence_of query).modulus l (a_cells a) (b_cells b) ≡ O.Refused r))
-            → ((length a ≡ a_bytes) × (length b ≡ b_bytes) × Clean query) × (flaw ≡ O.Refused r)
+        go : (check_of query ≡ Err r) ⊎ ((check_of query ≡ Ok tt) × (flaw_of (sequence_of query).modulus l (a_cells a) (b_cells b) ≡ Err r))
+            → ((length a ≡ a_bytes) × (length b ≡ b_bytes) × Clean query) × (flaw ≡ Err r)
         go (inl k) = absurd (omega (arith, n, check_small query k))
         go (inr k) = ((v.a_size, v.b_size, passed_clean query k.0), k.1)
 
-ran : (m : ℕ) (a b : List ℕ) (l : ℕ) (cells : List ℕ) → Flawed O.Refused (generate_of m a b l cells) (Runs m a b cells) m l (a_cells a) (b_cells b)
+ran : (m : ℕ) (a b : List ℕ) (l : ℕ) (cells : List ℕ) → Flawed Err (generate_of m a b l cells) (Runs m a b cells) m l (a_cells a) (b_cells b)
 ran m a b l cells =
-    flawed O.Refused (generate_of m a b l cells) (Runs m a b cells) m l (a_cells a) (b_cells b) back
+    flawed Err (generate_of m a b l cells) (Runs m a b cells) m l (a_cells a) (b_cells b) back
     (λ r h e. generate_flaw m a b l cells h.a_size h.b_size h.even h.least h.most h.count ∙ e)
   where
-    back : (r : Refusal) → 5 < (refusal r).number → generate_of m a b l cells ≡ O.Refused r → Runs m a b cells × (flaw_of m l (a_cells a) (b_cells b) ≡ O.Refused r)
+    back : (r : Refusal) → 5 < (refusal r).number → generate_of m a b l cells ≡ Err r → Runs m a b cells × (flaw_of m l (a_cells a) (b_cells b) ≡ Err r)
     back r n e =
         let g = generate_refused m a b l cells e n in
         (record { a_size = g.a_size; b_size = g.b_size; even = g.even; least = g.limits.0; most = g.limits.1; count = g.count }, g.source)
 
 -- looking up gives none of the three
-never : (query catalogue out : List ℕ) → OneOfThree S.Refused (look_up_of query catalogue out) → ⊥
+never : (query catalogue out : List ℕ) → OneOfThree Err (look_up_of query catalogue out) → ⊥
 never query catalogue out = go
   where
     from :
         (r : Refusal) → 5 < (refusal r).number → ((refusal R.Catalogue).number ≡ (refusal r).number → ⊥) → ((refusal R.Record).number ≡ (refusal r).number → ⊥)
-        → look_up_of query catalogue out ≡ S.Refused r → ⊥
+        → look_up_of query catalogue out ≡ Err r → ⊥
     from r n no_23 no_24 e = of (look_up_refused query catalogue out e (λ k. omega (arith, n, k))).source
       where
-        of : (check_of query ≡ O.Refused r) ⊎ ((O.Refused R.Catalogue ≡ O.Refused r) ⊎ (O.Refused R.Record ≡ O.Refused r)) → ⊥
+        of : (check_of query ≡ Err r) ⊎ ((Err R.Catalogue ≡ Err r) ⊎ (Err R.Record ≡ Err r)) → ⊥
         of (inl k) = omega (arith, n, check_small query k)
         of (inr (inl k)) = no_23 (same_number k)
         of (inr (inr k)) = no_24 (same_number k)
 
-    go : OneOfThree S.Refused (look_up_of query catalogue out) → ⊥
+    go : OneOfThree Err (look_up_of query catalogue out) → ⊥
     go (inl e) = from R.CandidateLength (omega arith) (λ k. omega arith) (λ k. omega arith) e
     go (inr (inl e)) = from R.CandidateCoefficient (omega arith) (λ k. omega arith) (λ k. omega arith) e
     go (inr (inr e)) = from R.CandidateLead (omega arith) (λ k. omega arith) (λ k. omega arith) e
 
 -- 24 is for a record that is met and whose test does not say yes
 told_24 :
-    (query catalogue out : List ℕ) → look_up_of query catalogue out ≡ S.Refused R.Record
-    → (i : ℕ) × (MeetsAt query catalogue out i × (test_at query catalogue i ≡ W.Yes → ⊥))
+    (query catalogue out : List ℕ) → look_up_of query catalogue out ≡ Err R.Record
+    → (i : ℕ) × (MeetsAt query catalogue out i × (test_at query catalogue i ≡ Ok None → ⊥))
 told_24 query catalogue out h =
     let f = fails_look_up query catalogue out h in
     let i = first_match query catalogue (records catalogue) in (
@@ -333,7 +330,7 @@ told_24 query catalogue out h =
     )
 
 is_24 :
-    (query catalogue out : List ℕ) (i : ℕ) → MeetsAt query catalogue out i → (test_at query catalogue i ≡ W.Yes → ⊥) → look_up_of query catalogue out ≡ S.Refused R.Record
+    (query catalogue out : List ℕ) (i : ℕ) → MeetsAt query catalogue out i → (test_at query catalogue i ≡ Ok None → ⊥) → look_up_of query catalogue out ≡ Err R.Record
 is_24 query catalogue out i m n =
     look_up_fails query catalogue out
     (record {
@@ -344,18 +341,18 @@ is_24 query catalogue out i m n =
       fails = ap (λ (k : ℕ). passes (sequence_of query) (record_at catalogue k)) m.match ∙ yes_not query catalogue i passed m.within n;
     })
   where
-    passed : check_of query ≡ O.Done
+    passed : check_of query ≡ Ok tt
     passed = clean_passed query m.clean
 
 -- a test that refuses does not say yes
 covered :
-    (query catalogue out : List ℕ) (i : ℕ) → MeetsAt query catalogue out i → OneOfThree W.Refused (test_at query catalogue i) → look_up_of query catalogue out ≡ S.Refused R.Record
+    (query catalogue out : List ℕ) (i : ℕ) → MeetsAt query catalogue out i → OneOfThree Err (test_at query catalogue i) → look_up_of query catalogue out ≡ Err R.Record
 covered query catalogue out i m r = is_24 query catalogue out i m (λ e. go r e)
   where
-    refused_yes : {x : Refusal} → test_at query catalogue i ≡ W.Refused x → test_at query catalogue i ≡ W.Yes → ⊥
+    refused_yes : {x : Refusal} → test_at query catalogue i ≡ Err x → test_at query catalogue i ≡ Ok None → ⊥
     refused_yes h e = let z : ◌≡◌ {A = ℕ} 0 1 = cc in omega arith
 
-    go : OneOfThree W.Refused (test_at query catalogue i) → test_at query catalogue i ≡ W.Yes → ⊥
+    go : OneOfThree Err (test_at query catalogue i) → test_at query catalogue i ≡ Ok None → ⊥
     go (inl h) e = refused_yes h e
     go (inr (inl h)) e = refused_yes h e
     go (inr (inr h)) e = refused_yes h e

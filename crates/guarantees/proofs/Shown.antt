@@ -6,6 +6,7 @@ use Prim.Native.Nat.{ℕ, zero, ◌≤◌, ◌<◌}
 use native.Mathlib.Omega.{arith}
 use lib.ListN.{length, replicate, length-replicate}
 use lib.Seq.{get_or-take, ext_get_or}
+use Rattle.std.specs.Prelude.{Ok, Err}
 use Rattle.lists.specs.Table.{at}
 use Rattle.cells.specs.Cell.{cell_at}
 use Rattle.residue.proofs.Congruence.{of_eq}
@@ -13,9 +14,6 @@ use Rattle.recurrence.specs.Least.{Least}
 use Rattle.recurrence.specs.Register.{complexity}
 use Rattle.recurrence.proofs.Length.{least_unique}
 use Rattle.recurrence.proofs.Register.{complexity_is_least, complexity_same}
-use Rattle.sequence.specs.declared.Outcome.TheVariants.{Done}
-use Rattle.sequence.specs.declared.Reported.{Reported}
-use Rattle.sequence.specs.declared.Reported.TheVariants as P
 use Rattle.sequence.specs.Limits.{max_modulus, max_terms, a_bytes, b_bytes, profile_bytes}
 use Rattle.sequence.specs.Rules.{open_of, query_of, sequence_of, check_of}
 use Rattle.sequence.proofs.Laws.{term_cell}
@@ -25,8 +23,9 @@ use Rattle.guarantees.specs.Calls.{Call, push, after_all, taken}
 use Rattle.guarantees.specs.Claims.{ShownBy, Demand3, MadeServedReported, terms_of, profile_cell, length_made}
 use Rattle.guarantees.proofs.Demand.{demand}
 use Rattle.guarantees.proofs.Records.{least, most, terms_long, terms_pushed, empty_made, same}
+use Rattle.sequence.specs.Answers.{Reported, of_length}
 
-module _ (query : List ℕ) (fine : check_of query ≡ Done) where
+module _ (query : List ℕ) (fine : check_of query ≡ Ok tt) where
   abbrev m : ℕ
   m = cell_at query 0
 
@@ -72,8 +71,8 @@ module _ (query : List ℕ) (fine : check_of query ≡ Done) where
         ∙ shown.last ∙ ap (profile_cell m calls cells) long
       where
         told : Reported → ℕ
-        told (P.Length l w) = l
-        told (P.Refused r) = zero
+        told (of_length l w) = l
+        told (Err r) = zero
 
   -- so it is the least length of them all
   pub made_least : (out : List ℕ) → length out ≡ record_bytes → Least m (at (terms_of query)) n (length_made query out)

@@ -13,12 +13,11 @@ use lib.ListN.{length, take, set, replicate, length-append, get_or-replicate, ge
 use lib.Seq.{set_at, get_or-append-add, get_or-append_seam}
 use borrow.Author.Tests.{lt-ltb, le-ltb, eq-eqb, ne_eqb}
 use borrow.Author.Count.{below_more}
+use Rattle.std.specs.Prelude.{Ok}
 use Rattle.lists.specs.Choice.{pick}
 use Rattle.lists.specs.Table.{at}
 use Rattle.lists.proofs.Search.{lt_or_le}
 use Rattle.sequence.specs.declared.Sequence.{Sequence}
-use Rattle.sequence.specs.declared.Outcome.{Outcome}
-use Rattle.sequence.specs.declared.Outcome.TheVariants.{Done}
 use Rattle.sequence.specs.declared.Opened.{Opened}
 use Rattle.sequence.specs.declared.Pushed.{Pushed}
 use Rattle.sequence.specs.Limits.{max_modulus, max_terms}
@@ -28,6 +27,7 @@ use Rattle.column.specs.declared.PushedAll.{PushedAll}
 use Rattle.column.specs.Rules.{terms_in, took, onward, each_of, push_all_of}
 use Rattle.column.proofs.Laws.{each_none, each_done, each_full, each_large, column_odd, column_each}
 use Rattle.guarantees.specs.Calls.{Call, push, push_all, register, profile, trace, after_all, takes_each, takes, taken_from, taken}
+use Rattle.sequence.specs.Answers.{Outcome}
 
 -- the terms in an array of 128, zero past the last
 abbrev pub padded : List ℕ → List ℕ
@@ -140,7 +140,7 @@ module _ (m : ℕ) (least : 2 ≤ m) (most : m ≤ max_modulus) where
 
   each_for : (us ts : List ℕ) → Good m ts → Left ts us (each_of (holding m ts) us) (takes_each m ts us)
   unfolding takes_each
-  each_for [] ts g = subst (λ (r : PushedAll). Left ts [] r ts) (sym (each_none (holding m ts))) (left_none ts [] Done g)
+  each_for [] ts g = subst (λ (r : PushedAll). Left ts [] r ts) (sym (each_none (holding m ts))) (left_none ts [] (Ok tt) g)
   each_for (t ∷ us) ts g = go (lt_or_le t m) (lt_or_le (length ts) max_terms) (λ h. each_for us (ts ++ (t ∷ [])) h)
     where
       s : IsSound (holding m ts)
@@ -160,7 +160,7 @@ module _ (m : ℕ) (least : 2 ≤ m) (most : m ≤ max_modulus) where
       go (inl k) (inl h) ih =
           let rest = ih (rw (lt-ltb t m k, lt-ltb (length ts) max_terms h) at (good_more ts t g)) in
           rw (lt-ltb t m k, lt-ltb (length ts) max_terms h)
-          (by (each_done (holding m ts) t us s h k ∙ ap (λ (z : Sequence). onward Done z (each_of z us)) (more ts t h))
+          (by (each_done (holding m ts) t us s h k ∙ ap (λ (z : Sequence). onward (Ok tt) z (each_of z us)) (more ts t h))
           (record { holds = rest.holds; good = rest.good; joined = rest.joined ∙ append_assoc ts (t ∷ []) _ }))
       go (inl k) (inr h) ih = rw (lt-ltb t m k, le-ltb (length ts) max_terms h) (full h)
       go (inr k) (inl h) ih = rw (le-ltb t m k) (by (each_large (holding m ts) t us s h k) (left_none ts (t ∷ us) _ g))
@@ -187,7 +187,7 @@ module _ (m : ℕ) (least : 2 ≤ m) (most : m ≤ max_modulus) where
   after_from (profile c ∷ cs) ts g = after_from cs ts g
   after_from (trace a b sheet ∷ cs) ts g = after_from cs ts g
 
-  pub opens : (open_of m).outcome ≡ Done
+  pub opens : (open_of m).outcome ≡ Ok tt
   opens = ap (λ (x : Opened). x.outcome) (open_done m least most)
 
   opened : (open_of m).sequence ≡ holding m []

@@ -7,6 +7,7 @@ use Prim.Native.Nat.{ℕ, ◌+◌, ◌*◌, ◌/◌, ◌≤◌, ◌<◌}
 use native.Mathlib.Omega.{arith}
 use lib.ListN.{length, take, drop, length-drop}
 use lib.Seq.{ext_get_or, length-take-le, get_or-take, get_or-drop}
+use Rattle.std.specs.Prelude.{Some, None, Ok}
 use Rattle.lists.specs.Table.{at}
 use Rattle.lists.proofs.Table.{length_tabulate, at_past, is_tabulate}
 use Rattle.lists.proofs.Search.{lt_or_le}
@@ -14,20 +15,18 @@ use Rattle.cells.specs.Cell.{cell_at, cells_from, bytes_of}
 use Rattle.cells.proofs.Laws.{cell_at_bytes_of, bytes_of_cells}
 use Rattle.recurrence.specs.Running.{generated}
 use Rattle.recurrence.proofs.Running.{generated_length, generated_at, cell_lt}
-use Rattle.sequence.specs.declared.Outcome.{Outcome}
-use Rattle.sequence.specs.declared.Outcome.TheVariants.{Done}
 use Rattle.sequence.specs.Limits.{max_terms, max_cells, a_bytes, b_bytes}
 use Rattle.sequence.specs.Rules.{sequence_of, check_of, IsSound}
 use Rattle.sequence.proofs.Laws.{check_done, term_cell}
-use Rattle.candidate.specs.declared.Verdict.TheVariants.{Yes, No}
 use Rattle.candidate.specs.Rules.{a_cells, b_cells, flaw_of, judge_of, verify_of, generate_of, generated_in}
 use Rattle.candidate.proofs.Testing.{verify_judges, generate_done, yes_gives, gives_yes, no_differs, differs_no}
 use Rattle.guarantees.specs.Claims.{terms_of, ran_in, DiffersAt, TestedByRunning}
 use Rattle.guarantees.proofs.Records.{size, least, most, terms_long}
+use Rattle.sequence.specs.Answers.{Outcome}
 
 -- ---- the terms of a query that passes its checks
 
-module _ (query : List ℕ) (passed : check_of query ≡ Done) where
+module _ (query : List ℕ) (passed : check_of query ≡ Ok tt) where
   sound : IsSound (sequence_of query)
   sound = (check_done query passed).1
 
@@ -81,13 +80,13 @@ module _ (query : List ℕ) (passed : check_of query ≡ Done) where
 
 -- ---- the cells run
 
-module _ (query a b : List ℕ) (l : ℕ) (cells : List ℕ) (passed : check_of query ≡ Done) (ha : length a ≡ a_bytes) (hb : length b ≡ b_bytes)
-    (good : flaw_of (cell_at query 0) l (a_cells a) (b_cells b) ≡ Done) (long : length cells ≡ 2 * cell_at query 1) where
+module _ (query a b : List ℕ) (l : ℕ) (cells : List ℕ) (passed : check_of query ≡ Ok tt) (ha : length a ≡ a_bytes) (hb : length b ≡ b_bytes)
+    (good : flaw_of (cell_at query 0) l (a_cells a) (b_cells b) ≡ Ok tt) (long : length cells ≡ 2 * cell_at query 1) where
   -- as numbers
   gives : List ℕ
   gives = generated (cell_at query 0) l (a_cells a) (b_cells b) (cell_at query 1)
 
-  done : generate_of (cell_at query 0) a b l cells ≡ Done
+  done : generate_of (cell_at query 0) a b l cells ≡ Ok tt
   done = generate_done (cell_at query 0) a b l cells (cell_at query 1) (least query passed) (most query passed) ha hb good long (few query passed)
 
   ran : ran_in query a b l cells ≡ bytes_of gives
@@ -121,7 +120,7 @@ module _ (query a b : List ℕ) (l : ℕ) (cells : List ℕ) (passed : check_of 
   cell_gives : (i : ℕ) → i < cell_at query 1 → cell_at (ran_in query a b l cells) i ≡ cell_at query (2 + i) → at (sequence_of query).terms i ≡ at gives i
   cell_gives i h e = term_at query passed i h ∙ sym e ∙ ran_at i h
 
-  yes_runs : verify_of query a b l ≡ Yes → ran_in query a b l cells ≡ bytes_of (terms_of query)
+  yes_runs : verify_of query a b l ≡ Ok None → ran_in query a b l cells ≡ bytes_of (terms_of query)
   unfolding gives sequence_of
   yes_runs h =
       ran
@@ -129,14 +128,14 @@ module _ (query a b : List ℕ) (l : ℕ) (cells : List ℕ) (passed : check_of 
       (λ i k. let n : i < cell_at query 1 = omega (arith, gives_long) in
       sym (terms_at query passed i n ∙ sym (term_at query passed i n) ∙ yes_gives (sequence_of query) (a_cells a) (b_cells b) l (sound query passed) (length_tabulate max_cells _) (length_tabulate max_terms _) good (sym verified ∙ h) i n)))
 
-  runs_yes : ran_in query a b l cells ≡ bytes_of (terms_of query) → verify_of query a b l ≡ Yes
+  runs_yes : ran_in query a b l cells ≡ bytes_of (terms_of query) → verify_of query a b l ≡ Ok None
   unfolding gives sequence_of
   runs_yes h =
       verified
       ∙ gives_yes (sequence_of query) (a_cells a) (b_cells b) l (sound query passed) (length_tabulate max_cells _) (length_tabulate max_terms _) good
       (λ i n. cell_gives i n (ap (λ (s : List ℕ). cell_at s i) h ∙ cell_at_bytes_of (terms_of query) i (omega (arith, terms_at query passed i n, term_small query passed i n)) ∙ terms_at query passed i n))
 
-  no_runs : (j : ℕ) → verify_of query a b l ≡ No j → DiffersAt query (ran_in query a b l cells) j
+  no_runs : (j : ℕ) → verify_of query a b l ≡ Ok (Some j) → DiffersAt query (ran_in query a b l cells) j
   unfolding gives sequence_of
   no_runs j h =
       let r = no_differs (sequence_of query) (a_cells a) (b_cells b) l (sound query passed) (length_tabulate max_cells _) (length_tabulate max_terms _) good j (sym verified ∙ h) in
@@ -147,7 +146,7 @@ module _ (query a b : List ℕ) (l : ℕ) (cells : List ℕ) (passed : check_of 
         other = λ e. r.2 (cell_gives j n e);
       }
 
-  runs_no : (j : ℕ) → DiffersAt query (ran_in query a b l cells) j → verify_of query a b l ≡ No j
+  runs_no : (j : ℕ) → DiffersAt query (ran_in query a b l cells) j → verify_of query a b l ≡ Ok (Some j)
   unfolding gives sequence_of
   runs_no j d =
       verified

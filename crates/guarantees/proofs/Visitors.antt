@@ -5,15 +5,14 @@ use mathlib.Core.List.{List}
 use Prim.Native.Nat.{ℕ}
 use lib.ListN.{drop}
 use borrow.Author.Tests.{eq-eqb, ne_eqb}
-use Rattle.sequence.specs.declared.Outcome.{Outcome}
 use Rattle.sequence.specs.Report.{filled}
-use Rattle.catalogue.specs.declared.LookedUp.{LookedUp}
-use Rattle.catalogue.specs.Rules.{body_bytes, record_of, record_at, look_up_of, editor, served_in}
+use Rattle.catalogue.specs.Rules.{body_bytes, record_of, record_at, look_up_of, editor, served_in, LookedUp}
 use Rattle.catalogue.proofs.Places.{made_number}
 use Rattle.catalogue.proofs.Visitors.{reply_same, answer_same, bytes_same, seen_whole, made_checked}
 use Rattle.codes.specs.Codes.{code_of}
 use Rattle.guarantees.specs.Visitors.{served_from, NothingLearned, ServedTo, EveryServing}
 use Rattle.guarantees.proofs.Records.{size, making_checked}
+use Rattle.sequence.specs.Answers.{Outcome}
 
 pub nothing_learned : NothingLearned
 unfolding NothingLearned

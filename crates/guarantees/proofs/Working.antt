@@ -6,6 +6,7 @@ use Prim.Native.Nat.{ℕ, ◌*◌, ◌≤◌, ◌<◌}
 use native.Mathlib.Omega.{arith}
 use lib.ListN.{length, drop, length-map}
 use borrow.Author.Tests.{eq-eqb, le-leb, lt-leb}
+use Rattle.std.specs.Prelude.{Err}
 use Rattle.lists.specs.Table.{at, tabulate}
 use Rattle.cells.specs.Cell.{bytes_of}
 use Rattle.residue.specs.Factors.{prime_powers}
@@ -17,15 +18,14 @@ use Rattle.steps.specs.declared.StepRecord.{StepRecord}
 use Rattle.steps.specs.Log.{step_record, step_of}
 use Rattle.sequence.specs.declared.Sequence.{Sequence}
 use Rattle.sequence.specs.declared.Refusal.TheVariants.{Buffer}
-use Rattle.sequence.specs.declared.Reported.{Reported}
-use Rattle.sequence.specs.declared.Reported.TheVariants.{Refused}
 use Rattle.sequence.specs.Limits.{max_modulus, max_terms, max_cells, a_bytes, b_bytes}
-use Rattle.sequence.specs.Report.{length_told, register_of, register_told, a_buffer, b_buffer, written}
+use Rattle.sequence.specs.Report.{length_told, register_of, register_told, a_buffer, b_buffer, filled}
 use Rattle.sequence.specs.Trace.{records_of, trace_of, sheet_filled}
 use Rattle.guarantees.specs.Calls.{taken}
 use Rattle.guarantees.specs.Claims.{WorkedBy, TooShort, EveryTrace, TheWorking}
 use Rattle.guarantees.proofs.State.{holding, padded, Good, sound_for, state, good}
 use Rattle.guarantees.proofs.Demand.{alike, same_register}
+use Rattle.sequence.specs.Answers.{Reported}
 
 -- the steps of a sheet that was stored, with what stands behind it
 steps_back : (xs : List Step) (behind : List StepRecord) → map step_of (map step_record xs ++ behind) ≡ xs ++ map step_of behind
@@ -46,7 +46,7 @@ module _ (m : ℕ) (least : 2 ≤ m) (most : m ≤ max_modulus) (ts : List ℕ) 
   same_sheet : sheet_of m (padded ts) (length ts) ≡ sheet_of m ts (length ts)
   same_sheet = sheet_same (padded ts) ts m (length ts) (omega arith) (alike m least most ts g (length ts) (omega arith))
 
-  is_short : length lent < length ts * rows → trace_of s a b (length lent) ≡ Refused Buffer
+  is_short : length lent < length ts * rows → trace_of s a b (length lent) ≡ Err Buffer
   unfolding trace_of
   is_short h = rw (eq-eqb (length a) a_bytes ha, eq-eqb (length b) b_bytes hb, sound_for m least most ts g, lt-leb (length ts * rows) (length lent) h)
 
@@ -54,8 +54,8 @@ module _ (m : ℕ) (least : 2 ≤ m) (most : m ≤ max_modulus) (ts : List ℕ) 
   too_short h =
       record {
         refused = is_short h;
-        a_lent = ap (λ (r : Reported). written r (a_buffer s) a) (is_short h);
-        b_lent = ap (λ (r : Reported). written r (b_buffer s) b) (is_short h);
+        a_lent = ap (λ (r : Reported). filled r (a_buffer s) a) (is_short h);
+        b_lent = ap (λ (r : Reported). filled r (b_buffer s) b) (is_short h);
         sheet_lent = ap (λ (r : Reported). sheet_filled r (records_of s) lent) (is_short h);
       }
 
@@ -74,8 +74,8 @@ module _ (m : ℕ) (least : 2 ≤ m) (most : m ≤ max_modulus) (ts : List ℕ) 
     works =
         record {
           reported = is_done ∙ ap (λ (x : Register). length_told m (length ts) x.length) same;
-          a_as_cells = ap (λ (r : Reported). written r (a_buffer s) a) is_done ∙ ap (λ (x : Register). bytes_of (tabulate max_cells (at x.a))) same;
-          b_as_cells = ap (λ (r : Reported). written r (b_buffer s) b) is_done ∙ ap (λ (x : Register). bytes_of (tabulate max_terms (at x.b))) same;
+          a_as_cells = ap (λ (r : Reported). filled r (a_buffer s) a) is_done ∙ ap (λ (x : Register). bytes_of (tabulate max_cells (at x.a))) same;
+          b_as_cells = ap (λ (r : Reported). filled r (b_buffer s) b) is_done ∙ ap (λ (x : Register). bytes_of (tabulate max_terms (at x.b))) same;
           records = stored;
           number = length_sheet m ts (length ts);
           replays =

@@ -1,10 +1,9 @@
 -- Batches with the answers to them: each kind of reply, each refusal, the order, and what stands in the buffers, where sevens were lent.
 -- Assumes nothing.
-use Rattle.std.specs.Prelude.{◌≡◌, List, [], ◌∷◌, ◌++◌, ℕ, suc, ◌+◌, ◌*◌, take, drop, replicate}
+use Rattle.std.specs.Prelude.{◌≡◌, List, [], ◌∷◌, ◌++◌, ℕ, suc, ◌+◌, ◌*◌, take, drop, replicate, Some, None, Ok}
 use Rattle.cells.specs.Cell.{bytes_of}
 use Rattle.sequence.specs.Answers.{Answer, granted, refused}
 use Rattle.sequence.specs.Rules.{query_of}
-use Rattle.catalogue.specs.declared.LookedUp.TheVariants as S
 use Rattle.catalogue.specs.Rules.{record_bytes, body, record_of}
 use Rattle.codes.specs.Codes.{counts_code_of}
 use Rattle.batch.specs.Rules.{queries_in, look_up_batch_answer}
@@ -126,7 +125,7 @@ pub record WholeRows : Type 0 where
 
 -- the walk along four, nine, nine: after none, one, two and three of them
 pub record WalkRows : Type 0 where
-  pub after_0 : held_of nine (record_of four ++ (record_of nine ++ record_of nine)) 0 ≡ S.Made
-  pub after_1 : held_of nine (record_of four ++ (record_of nine ++ record_of nine)) 1 ≡ S.Made
-  pub after_2 : held_of nine (record_of four ++ (record_of nine ++ record_of nine)) 2 ≡ S.Found 1
-  pub after_3 : held_of nine (record_of four ++ (record_of nine ++ record_of nine)) 3 ≡ S.Found 1
+  pub after_0 : held_of nine (record_of four ++ (record_of nine ++ record_of nine)) 0 ≡ Ok None
+  pub after_1 : held_of nine (record_of four ++ (record_of nine ++ record_of nine)) 1 ≡ Ok None
+  pub after_2 : held_of nine (record_of four ++ (record_of nine ++ record_of nine)) 2 ≡ Ok (Some 1)
+  pub after_3 : held_of nine (record_of four ++ (record_of nine ++ record_of nine)) 3 ≡ Ok (Some 1)

@@ -1,19 +1,16 @@
 -- The claims about batches: when each refusal is given, that each query gets what it gets alone, what the walk holds after the first j records, what is
 -- counted, that visitors learn nothing, and that the records are those made and reported.
 -- Assumes nothing.
-use Rattle.std.specs.Prelude.{◌≡◌, true, false, List, ℕ, ◌+◌, ◌*◌, ◌/◌, ◌%◌, ◌≤◌, ◌<◌, length, replicate}
+use Rattle.std.specs.Prelude.{◌≡◌, true, false, List, ℕ, ◌+◌, ◌*◌, ◌/◌, ◌%◌, ◌≤◌, ◌<◌, length, replicate, Ok, Err}
 use Rattle.lists.specs.Sum.{sum_to}
 use Rattle.lists.specs.Table.{at}
 use Rattle.cells.specs.Cell.{cell_at}
 use Rattle.sequence.specs.declared.Refusal.{Refusal}
 use Rattle.sequence.specs.declared.Refusal.TheVariants as R
-use Rattle.sequence.specs.declared.Outcome.{Outcome}
-use Rattle.sequence.specs.declared.Outcome.TheVariants.{Done, Refused}
 use Rattle.sequence.specs.Limits.{query_bytes, a_bytes, b_bytes}
-use Rattle.sequence.specs.Answers.{refusal}
+use Rattle.sequence.specs.Answers.{refusal, Outcome}
 use Rattle.sequence.specs.Rules.{check_of}
 use Rattle.sequence.specs.Report.{filled}
-use Rattle.catalogue.specs.declared.LookedUp.TheVariants as S
 use Rattle.catalogue.specs.Rules.{record_bytes, body, record_of, synthesize_of, record_at, is_of, look_up_of, look_up_answer, editor, seen_by}
 use Rattle.codes.specs.Codes.{code_of, counts_code_of}
 use Rattle.batch.specs.Rules.{max_queries, query_at, queries_in, is_found, is_made, is_refused, look_up_batch_of, batch_answer, look_up_batch_answer, parts_in, replies_in}
@@ -40,15 +37,15 @@ pub record Fitting (queries out replies : List ℕ) : Type 0 where
 -- The reason of the outcome of the whole call: for each outcome the condition under which it is given.
 pub data BatchReason (queries catalogue out replies : List ℕ) (o : Outcome) : Type 0 where
   -- 5
-  buffer : (Fitting queries out replies → ⊥) → o ≡ Refused R.Buffer → BatchReason queries catalogue out replies o
+  buffer : (Fitting queries out replies → ⊥) → o ≡ Err R.Buffer → BatchReason queries catalogue out replies o
   -- 34
-  many : Fitting queries out replies → max_queries < queries_in queries → o ≡ Refused R.Batch → BatchReason queries catalogue out replies o
+  many : Fitting queries out replies → max_queries < queries_in queries → o ≡ Err R.Batch → BatchReason queries catalogue out replies o
   -- 23
   uneven :
-      Fitting queries out replies → queries_in queries ≤ max_queries → (length catalogue % record_bytes ≡ 0 → ⊥) → o ≡ Refused R.Catalogue
+      Fitting queries out replies → queries_in queries ≤ max_queries → (length catalogue % record_bytes ≡ 0 → ⊥) → o ≡ Err R.Catalogue
       → BatchReason queries catalogue out replies o
   done :
-      Fitting queries out replies → queries_in queries ≤ max_queries → length catalogue % record_bytes ≡ 0 → o ≡ Done → BatchReason queries catalogue out replies o
+      Fitting queries out replies → queries_in queries ≤ max_queries → length catalogue % record_bytes ≡ 0 → o ≡ Ok tt → BatchReason queries catalogue out replies o
 
 pub record EveryOutcome (queries catalogue out replies : List ℕ) : Type 0 where
   -- what is replied has its reason, and what has a reason is replied
@@ -57,12 +54,12 @@ pub record EveryOutcome (queries catalogue out replies : List ℕ) : Type 0 wher
   -- by number it is the answer that the calls promise, for C too
   pub by_number : batch_answer (look_up_batch_of queries catalogue out replies) ≡ look_up_batch_answer queries catalogue out replies
   -- where the whole call is refused, the records and the replies are as lent
-  pub records_kept : (who : ℕ) (r : Refusal) → (look_up_batch_of queries catalogue out replies).outcome ≡ Refused r → records_after who queries catalogue out replies ≡ out
-  pub replies_kept : (r : Refusal) → (look_up_batch_of queries catalogue out replies).outcome ≡ Refused r → replies_after queries catalogue out replies ≡ replies
+  pub records_kept : (who : ℕ) (r : Refusal) → (look_up_batch_of queries catalogue out replies).outcome ≡ Err r → records_after who queries catalogue out replies ≡ out
+  pub replies_kept : (r : Refusal) → (look_up_batch_of queries catalogue out replies).outcome ≡ Err r → replies_after queries catalogue out replies ≡ replies
   -- and nothing is counted
   pub none_counted :
-      (r : Refusal) → (look_up_batch_of queries catalogue out replies).outcome ≡ Refused r
-      → look_up_batch_of queries catalogue out replies ≡ record { found = 0; made = 0; refused = 0; outcome = Refused r }
+      (r : Refusal) → (look_up_batch_of queries catalogue out replies).outcome ≡ Err r
+      → look_up_batch_of queries catalogue out replies ≡ record { found = 0; made = 0; refused = 0; outcome = Err r }
 
 -- ---- each query
 
@@ -72,10 +69,10 @@ pub record Alone (who : ℕ) (queries catalogue out replies : List ℕ) (i : ℕ
   pub reply : at (replies_after queries catalogue out replies) i ≡ code_of (look_up_answer (query_at queries i) catalogue lent)
   -- the bytes that looking up writes for the same asker; after a refusal zeros
   pub served :
-      ((r : Refusal) → look_up_of (query_at queries i) catalogue lent ≡ S.Refused r → ⊥)
+      ((r : Refusal) → look_up_of (query_at queries i) catalogue lent ≡ Err r → ⊥)
       → record_at (records_after who queries catalogue out replies) i ≡ served_from who (query_at queries i) catalogue lent
   pub zeros :
-      (r : Refusal) → look_up_of (query_at queries i) catalogue lent ≡ S.Refused r → record_at (records_after who queries catalogue out replies) i ≡ replicate record_bytes 0
+      (r : Refusal) → look_up_of (query_at queries i) catalogue lent ≡ Err r → record_at (records_after who queries catalogue out replies) i ≡ replicate record_bytes 0
   -- it is a whole query, so that it is never refused by 5
   pub size : length (query_at queries i) ≡ query_bytes
 
@@ -96,14 +93,14 @@ pub record FirstMatch (query catalogue : List ℕ) (j k : ℕ) : Type 0 where
 -- What stands in a query's part and reply when the walk has passed the first j records.
 pub record HeldFor (who : ℕ) (query catalogue : List ℕ) (j : ℕ) (part : List ℕ) (reply : ℕ) : Type 0 where
   -- for one that passes its own checks the first match among them, exactly where there is one, and in its part that record as who asks sees it
-  pub match_is : check_of query ≡ Done → (k : ℕ) → reply ≡ 256 * (1 + k) → FirstMatch query catalogue j k
-  pub is_match : check_of query ≡ Done → (k : ℕ) → FirstMatch query catalogue j k → (reply ≡ 256 * (1 + k)) × (part ≡ seen_by who (record_at catalogue k))
+  pub match_is : check_of query ≡ Ok tt → (k : ℕ) → reply ≡ 256 * (1 + k) → FirstMatch query catalogue j k
+  pub is_match : check_of query ≡ Ok tt → (k : ℕ) → FirstMatch query catalogue j k → (reply ≡ 256 * (1 + k)) × (part ≡ seen_by who (record_at catalogue k))
   -- and none exactly where there is none
-  pub none_is : check_of query ≡ Done → reply ≡ 0 → (k : ℕ) → k < j → is_of query (record_at catalogue k) ≡ false
+  pub none_is : check_of query ≡ Ok tt → reply ≡ 0 → (k : ℕ) → k < j → is_of query (record_at catalogue k) ≡ false
   pub is_none :
-      check_of query ≡ Done → ((k : ℕ) → k < j → is_of query (record_at catalogue k) ≡ false) → (reply ≡ 0) × (part ≡ replicate record_bytes 0)
+      check_of query ≡ Ok tt → ((k : ℕ) → k < j → is_of query (record_at catalogue k) ≡ false) → (reply ≡ 0) × (part ≡ replicate record_bytes 0)
   -- for any other its refusal
-  pub refused : (r : Refusal) → check_of query ≡ Refused r → (reply ≡ code_of (refusal r)) × (part ≡ replicate record_bytes 0)
+  pub refused : (r : Refusal) → check_of query ≡ Err r → (reply ≡ code_of (refusal r)) × (part ≡ replicate record_bytes 0)
 
 -- So for every query of a batch. `walk_along` has this of running code, for every j.
 abbrev pub Walked : (who : ℕ) (queries catalogue : List ℕ) (j : ℕ) (out replies : List ℕ) → Type 0
@@ -153,14 +150,14 @@ pub record BatchSame (who : ℕ) (queries catalogue out replies : List ℕ) (i :
 -- For every batch, catalogue and buffers, and whoever asks; of each query and of the counts where the whole call is not refused.
 pub record Batches (queries catalogue out replies : List ℕ) : Type 0 where
   pub outcomes : EveryOutcome queries catalogue out replies
-  pub queries_alone : (who : ℕ) → (look_up_batch_of queries catalogue out replies).outcome ≡ Done → EveryQuery who queries catalogue out replies
+  pub queries_alone : (who : ℕ) → (look_up_batch_of queries catalogue out replies).outcome ≡ Ok tt → EveryQuery who queries catalogue out replies
   pub walked : (who j : ℕ) (held told : List ℕ) → Holding who queries catalogue j held told → Walked who queries catalogue j held told
   pub counted :
-      (look_up_batch_of queries catalogue out replies).outcome ≡ Done → (lent : List ℕ) → length lent ≡ record_bytes → Counted queries catalogue out replies lent
+      (look_up_batch_of queries catalogue out replies).outcome ≡ Ok tt → (lent : List ℕ) → length lent ≡ record_bytes → Counted queries catalogue out replies lent
   pub alike : (c' : List ℕ) → SameButNumbers catalogue c' → BatchAlike queries catalogue c' out replies
   pub same :
-      (who : ℕ) → (look_up_batch_of queries catalogue out replies).outcome ≡ Done → MadeCatalogue catalogue
-      → (i : ℕ) → i < queries_in queries → check_of (query_at queries i) ≡ Done → (lent : List ℕ) → length lent ≡ record_bytes
+      (who : ℕ) → (look_up_batch_of queries catalogue out replies).outcome ≡ Ok tt → MadeCatalogue catalogue
+      → (i : ℕ) → i < queries_in queries → check_of (query_at queries i) ≡ Ok tt → (lent : List ℕ) → length lent ≡ record_bytes
       → BatchSame who queries catalogue out replies i lent
 
 unfoldable pub TheBatches : Type 0

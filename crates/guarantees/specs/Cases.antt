@@ -1,17 +1,14 @@
 -- The fourteen marked cases of the scope, as replies of the calls.
 -- Assumes nothing.
-use Rattle.std.specs.Prelude.{◌≡◌, List, [], ◌∷◌, map, ℕ, suc, ◌+◌, length, replicate}
+use Rattle.std.specs.Prelude.{◌≡◌, List, [], ◌∷◌, map, ℕ, suc, ◌+◌, length, replicate, Some, Ok}
 use Rattle.lists.specs.Table.{at, tabulate}
 use Rattle.cells.specs.Cell.{cells_from, bytes_of}
 use Rattle.sequence.specs.Limits.{max_cells, max_terms, a_bytes, b_bytes, profile_bytes}
 use Rattle.sequence.specs.declared.Sequence.{Sequence}
-use Rattle.sequence.specs.declared.Reported.{Reported}
 use Rattle.sequence.specs.declared.Uniqueness.TheVariants.{Sole, Several, NotTold}
-use Rattle.sequence.specs.declared.Reported.TheVariants.{Length}
-use Rattle.sequence.specs.Answers.{granted, refused, refused_at, outcome_answer}
+use Rattle.sequence.specs.Answers.{granted, refused, refused_at, outcome_answer, Reported, of_length}
 use Rattle.sequence.specs.Rules.{open_of, push_of, query_of}
-use Rattle.sequence.specs.Report.{report_of, a_buffer, b_buffer, written, profile_of, profile_buffer, filled}
-use Rattle.candidate.specs.declared.Verdict.TheVariants.{No}
+use Rattle.sequence.specs.Report.{report_of, a_buffer, b_buffer, profile_of, profile_buffer, filled}
 use Rattle.candidate.specs.Rules.{verify_of, generate_of, generated_in}
 use Rattle.guarantees.specs.Calls.{push, after_all}
 
@@ -35,8 +32,8 @@ reply m ts l =
     let r = report_of s (zeros a_bytes) (zeros b_bytes) in
     record {
       answer = r;
-      a = cells_from (written r (a_buffer s) (zeros a_bytes)) 0 (suc l);
-      b = cells_from (written r (b_buffer s) (zeros b_bytes)) 0 l;
+      a = cells_from (filled r (a_buffer s) (zeros a_bytes)) 0 (suc l);
+      b = cells_from (filled r (b_buffer s) (zeros b_bytes)) 0 l;
     }
 
 -- the first n + 1 cells of the profile of n terms
@@ -55,18 +52,18 @@ unfoldable pub run : ℕ → List ℕ → List ℕ → ℕ → ℕ → List ℕ
 run m a b l c = cells_from (generated_in (generate_of m (a_of a) (b_of b) l (zeros (c + c))) m (a_of a) (b_of b) l (zeros (c + c))) 0 c
 
 pub record Cases : Type 0 where
-  pub case1 : reply 2 [] 0 ≡ record { answer = Length 0 Sole; a = 1 ∷ []; b = [] }
-  pub case2 : reply 5 (0 ∷ 0 ∷ 0 ∷ []) 0 ≡ record { answer = Length 0 Sole; a = 1 ∷ []; b = [] }
-  pub case3 : reply 9 (6 ∷ 3 ∷ 1 ∷ 5 ∷ 6 ∷ []) 3 ≡ record { answer = Length 3 NotTold; a = 1 ∷ 4 ∷ 7 ∷ 1 ∷ []; b = 6 ∷ 0 ∷ 1 ∷ [] }
+  pub case1 : reply 2 [] 0 ≡ record { answer = of_length 0 Sole; a = 1 ∷ []; b = [] }
+  pub case2 : reply 5 (0 ∷ 0 ∷ 0 ∷ []) 0 ≡ record { answer = of_length 0 Sole; a = 1 ∷ []; b = [] }
+  pub case3 : reply 9 (6 ∷ 3 ∷ 1 ∷ 5 ∷ 6 ∷ []) 3 ≡ record { answer = of_length 3 NotTold; a = 1 ∷ 4 ∷ 7 ∷ 1 ∷ []; b = 6 ∷ 0 ∷ 1 ∷ [] }
   pub case4 : lengths 9 (6 ∷ 3 ∷ 1 ∷ 5 ∷ 6 ∷ []) ≡ 0 ∷ 1 ∷ 1 ∷ 3 ∷ 3 ∷ 3 ∷ []
-  pub case5 : reply 4 (2 ∷ 2 ∷ []) 1 ≡ record { answer = Length 1 NotTold; a = 1 ∷ 3 ∷ []; b = 2 ∷ [] }
-  pub case6 : reply 4 (2 ∷ 1 ∷ []) 2 ≡ record { answer = Length 2 NotTold; a = 1 ∷ 0 ∷ 0 ∷ []; b = 2 ∷ 1 ∷ [] }
-  pub case7 : reply 2 (0 ∷ 0 ∷ 1 ∷ []) 3 ≡ record { answer = Length 3 Several; a = 1 ∷ 0 ∷ 0 ∷ 0 ∷ []; b = 0 ∷ 0 ∷ 1 ∷ [] }
-  pub case8 : reply 6 (3 ∷ 3 ∷ []) 1 ≡ record { answer = Length 1 NotTold; a = 1 ∷ 3 ∷ []; b = 3 ∷ [] }
-  pub case9 : reply 7 (1 ∷ 1 ∷ 2 ∷ 3 ∷ 5 ∷ 1 ∷ []) 2 ≡ record { answer = Length 2 Sole; a = 1 ∷ 6 ∷ 6 ∷ []; b = 1 ∷ 0 ∷ [] }
+  pub case5 : reply 4 (2 ∷ 2 ∷ []) 1 ≡ record { answer = of_length 1 NotTold; a = 1 ∷ 3 ∷ []; b = 2 ∷ [] }
+  pub case6 : reply 4 (2 ∷ 1 ∷ []) 2 ≡ record { answer = of_length 2 NotTold; a = 1 ∷ 0 ∷ 0 ∷ []; b = 2 ∷ 1 ∷ [] }
+  pub case7 : reply 2 (0 ∷ 0 ∷ 1 ∷ []) 3 ≡ record { answer = of_length 3 Several; a = 1 ∷ 0 ∷ 0 ∷ 0 ∷ []; b = 0 ∷ 0 ∷ 1 ∷ [] }
+  pub case8 : reply 6 (3 ∷ 3 ∷ []) 1 ≡ record { answer = of_length 1 NotTold; a = 1 ∷ 3 ∷ []; b = 3 ∷ [] }
+  pub case9 : reply 7 (1 ∷ 1 ∷ 2 ∷ 3 ∷ 5 ∷ 1 ∷ []) 2 ≡ record { answer = of_length 2 Sole; a = 1 ∷ 6 ∷ 6 ∷ []; b = 1 ∷ 0 ∷ [] }
   pub case10 : run 7 (1 ∷ 6 ∷ 6 ∷ []) (1 ∷ 0 ∷ []) 2 6 ≡ 1 ∷ 1 ∷ 2 ∷ 3 ∷ 5 ∷ 1 ∷ []
-  pub case11 : verify_of (query_of 9 (6 ∷ 3 ∷ 1 ∷ 5 ∷ 6 ∷ [])) (a_of (1 ∷ 4 ∷ 7 ∷ 2 ∷ [])) (b_of (6 ∷ 0 ∷ 1 ∷ [])) 3 ≡ No 3
-  pub case12 : reply 6 (1 ∷ 0 ∷ []) 1 ≡ record { answer = Length 1 NotTold; a = 1 ∷ 0 ∷ []; b = 1 ∷ [] }
+  pub case11 : verify_of (query_of 9 (6 ∷ 3 ∷ 1 ∷ 5 ∷ 6 ∷ [])) (a_of (1 ∷ 4 ∷ 7 ∷ 2 ∷ [])) (b_of (6 ∷ 0 ∷ 1 ∷ [])) 3 ≡ Ok (Some 3)
+  pub case12 : reply 6 (1 ∷ 0 ∷ []) 1 ≡ record { answer = of_length 1 NotTold; a = 1 ∷ 0 ∷ []; b = 1 ∷ [] }
   pub case13 :
       (outcome_answer (push_of (open_of 4095).sequence 4094).outcome ≡ granted [])
       × (outcome_answer (push_of (open_of 4095).sequence 4095).outcome ≡ refused_at 3 0)

@@ -1,7 +1,7 @@
 -- The claims about the census: when each refusal is given, that every sequence has exactly one number, in dictionary order, and that the tally counts the
 -- least lengths that the calls show.
 -- Assumes nothing.
-use Rattle.std.specs.Prelude.{◌≡◌, true, false, List, ◌∷◌, ◌++◌, ℕ, zero, ◌*◌, ◌-◌, ◌^◌, ◌≤◌, ◌<◌, min, eqb, length}
+use Rattle.std.specs.Prelude.{◌≡◌, true, false, List, ◌∷◌, ◌++◌, ℕ, zero, ◌*◌, ◌-◌, ◌^◌, ◌≤◌, ◌<◌, min, eqb, length, Ok, Err}
 use Rattle.lists.specs.Sum.{sum_to}
 use Rattle.lists.specs.Table.{at}
 use Rattle.cells.specs.Cell.{cell_at}
@@ -10,10 +10,8 @@ use Rattle.recurrence.specs.Least.{Least}
 use Rattle.counting.specs.Numbering.{ListOf, Before, count_below}
 use Rattle.sequence.specs.declared.Refusal.{Refusal}
 use Rattle.sequence.specs.declared.Refusal.TheVariants as R
-use Rattle.sequence.specs.declared.Outcome.{Outcome}
-use Rattle.sequence.specs.declared.Outcome.TheVariants.{Done, Refused}
 use Rattle.sequence.specs.Limits.{max_terms, query_bytes, profile_bytes}
-use Rattle.sequence.specs.Answers.{outcome_answer}
+use Rattle.sequence.specs.Answers.{outcome_answer, Outcome}
 use Rattle.sequence.specs.Rules.{query_of, check_of}
 use Rattle.sequence.specs.Report.{filled}
 use Rattle.catalogue.specs.Rules.{record_bytes}
@@ -49,17 +47,17 @@ pub data Uncounted (m n : ℕ) (r : Refusal) : Type 0 where
 -- The reason of a reply: for each reply the condition under which it is given. Of a number:
 pub data NumberReason (m n x : ℕ) (query : List ℕ) (o : Outcome) : Type 0 where
   -- 5: another length of the buffer
-  buffer : (length query ≡ query_bytes → ⊥) → o ≡ Refused R.Buffer → NumberReason m n x query o
-  uncounted : (r : Refusal) → length query ≡ query_bytes → Uncounted m n r → o ≡ Refused r → NumberReason m n x query o
+  buffer : (length query ≡ query_bytes → ⊥) → o ≡ Err R.Buffer → NumberReason m n x query o
+  uncounted : (r : Refusal) → length query ≡ query_bytes → Uncounted m n r → o ≡ Err r → NumberReason m n x query o
   -- 33: the number is not below the power
-  large : length query ≡ query_bytes → Countable m n → m ^ n ≤ x → o ≡ Refused R.Census → NumberReason m n x query o
-  done : length query ≡ query_bytes → Countable m n → x < m ^ n → o ≡ Done → NumberReason m n x query o
+  large : length query ≡ query_bytes → Countable m n → m ^ n ≤ x → o ≡ Err R.Census → NumberReason m n x query o
+  done : length query ≡ query_bytes → Countable m n → x < m ^ n → o ≡ Ok tt → NumberReason m n x query o
 
 -- of a tally
 pub data TallyReason (m n : ℕ) (cells : List ℕ) (o : Outcome) : Type 0 where
-  buffer : (length cells ≡ tally_bytes → ⊥) → o ≡ Refused R.Buffer → TallyReason m n cells o
-  uncounted : (r : Refusal) → length cells ≡ tally_bytes → Uncounted m n r → o ≡ Refused r → TallyReason m n cells o
-  done : length cells ≡ tally_bytes → Countable m n → o ≡ Done → TallyReason m n cells o
+  buffer : (length cells ≡ tally_bytes → ⊥) → o ≡ Err R.Buffer → TallyReason m n cells o
+  uncounted : (r : Refusal) → length cells ≡ tally_bytes → Uncounted m n r → o ≡ Err r → TallyReason m n cells o
+  done : length cells ≡ tally_bytes → Countable m n → o ≡ Ok tt → TallyReason m n cells o
 
 -- Every reply to a number and to a tally.
 pub record EveryReply (m n x : ℕ) (query cells : List ℕ) : Type 0 where
@@ -72,15 +70,15 @@ pub record EveryReply (m n x : ℕ) (query cells : List ℕ) : Type 0 where
   pub number_by_number : outcome_answer (enumerate_of m n x query) ≡ enumerate_answer m n x query
   pub tally_by_number : outcome_answer (tally_of m n cells) ≡ tally_answer m n cells
   -- on a refusal the buffer is as lent
-  pub query_kept : (enumerate_of m n x query ≡ Done → ⊥) → query_after m n x query ≡ query
-  pub cells_kept : (tally_of m n cells ≡ Done → ⊥) → cells_after m n cells ≡ cells
+  pub query_kept : (enumerate_of m n x query ≡ Ok tt → ⊥) → query_after m n x query ≡ query
+  pub cells_kept : (tally_of m n cells ≡ Ok tt → ⊥) → cells_after m n cells ≡ cells
 
 -- ---- the numbers
 
 -- What is written for the numbers below m^n, lent a query buffer each.
 pub record Numbered (m n : ℕ) (query : List ℕ) : Type 0 where
   -- the query meets no refusal of its own, and is the one written by hand for n terms modulo m
-  pub passes : (x : ℕ) → x < m ^ n → check_of (query_after m n x query) ≡ Done
+  pub passes : (x : ℕ) → x < m ^ n → check_of (query_after m n x query) ≡ Ok tt
   pub by_hand : (x : ℕ) → x < m ^ n → query_after m n x query ≡ query_of m (terms_of (query_after m n x query))
   pub terms : (x : ℕ) → x < m ^ n → ListOf m n (terms_of (query_after m n x query))
   -- every sequence of n terms below m has exactly one number
@@ -124,8 +122,8 @@ pub record Tally (m n : ℕ) (query cells : List ℕ) : Type 0 where
 pub record PrintedLines (m n : ℕ) (cells : List ℕ) : Type 0 where
   pub answered : m < number_limit → n < number_limit → pair_line (numeral m ++ 32 ∷ numeral n) ≡ census_line m n
   pub going : m < number_limit → n < number_limit → is_pair (pair_in (numeral m ++ 32 ∷ numeral n)) ≡ true
-  pub refused : (r : Refusal) → tally_of m n cells ≡ Refused r → census_line m n ≡ refusal_line r
-  pub tallied : tally_of m n cells ≡ Done → census_line m n ≡ tally_line m n (cells_after m n cells)
+  pub refused : (r : Refusal) → tally_of m n cells ≡ Err r → census_line m n ≡ refusal_line r
+  pub tallied : tally_of m n cells ≡ Ok tt → census_line m n ≡ tally_line m n (cells_after m n cells)
   pub other : (line : List ℕ) → is_pair (pair_in line) ≡ false → pair_line line ≡ no_pair_line
 
 -- For every m, n, number and buffer; and, where m to the power n is at most 4,096, for buffers of the right length.

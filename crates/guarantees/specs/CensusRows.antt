@@ -1,6 +1,6 @@
 -- Numbers and tallies with the answers to them: those of 02, small ones by the steps, large ones, lines of the census, each refusal, and their order.
 -- Assumes nothing.
-use Rattle.std.specs.Prelude.{◌≡◌, true, false, List, [], ◌∷◌, ◌++◌, ℕ, ◌-◌, ◌^◌, length, replicate}
+use Rattle.std.specs.Prelude.{◌≡◌, true, false, List, [], ◌∷◌, ◌++◌, ℕ, ◌-◌, ◌^◌, length, replicate, Some, None}
 use Rattle.lists.specs.Text.{bytes}
 use Rattle.cells.specs.Cell.{cell_at, bytes_of}
 use Rattle.sequence.specs.Limits.{query_bytes}
@@ -8,7 +8,6 @@ use Rattle.sequence.specs.Answers.{Answer, granted, refused}
 use Rattle.sequence.specs.Rules.{query_of}
 use Rattle.enumeration.specs.Rules.{lengths, tally_bytes, enumerate_answer, tally_answer}
 use Rattle.codes.specs.Codes.{code_of}
-use Rattle.formatting.specs.declared.Pair.TheVariants.{Numbers, NoPair}
 use Rattle.formatting.specs.Census.{census_header, pair_in, pair_line, is_pair}
 use Rattle.guarantees.specs.Census.{query_after, cells_after}
 
@@ -78,15 +77,15 @@ pub record CensusRows : Type 0 where
   -- and lines that end it
   pub other : pair_line (bytes "2,3") ≡ bytes "not a modulus and a count\n"
   pub other_ends : is_pair (pair_in (bytes "2,3")) ≡ false
-  pub empty_line : pair_in (bytes "") ≡ NoPair
-  pub one_number : pair_in (bytes "23") ≡ NoPair
-  pub two_blanks : pair_in (bytes "2  3") ≡ NoPair
-  pub blank_first : pair_in (bytes " 2 3") ≡ NoPair
-  pub blank_last : pair_in (bytes "2 3 ") ≡ NoPair
-  pub no_count : pair_in (bytes "2 ") ≡ NoPair
-  pub minus : pair_in (bytes "2 -3") ≡ NoPair
-  pub too_large : pair_in (bytes "2 4294967296") ≡ NoPair
-  pub largest : pair_in (bytes "4294967295 0") ≡ Numbers 4294967295 0
+  pub empty_line : pair_in (bytes "") ≡ None
+  pub one_number : pair_in (bytes "23") ≡ None
+  pub two_blanks : pair_in (bytes "2  3") ≡ None
+  pub blank_first : pair_in (bytes " 2 3") ≡ None
+  pub blank_last : pair_in (bytes "2 3 ") ≡ None
+  pub no_count : pair_in (bytes "2 ") ≡ None
+  pub minus : pair_in (bytes "2 -3") ≡ None
+  pub too_large : pair_in (bytes "2 4294967296") ≡ None
+  pub largest : pair_in (bytes "4294967295 0") ≡ Some (4294967295, 0)
   -- a refusal leaves the buffers as lent
   pub refused_query : query_to 2 3 8 ≡ sevens query_bytes
   pub refused_cells : cells_to 2 13 ≡ sevens tally_bytes

@@ -1,6 +1,6 @@
 -- The claims about every list of calls, about the working, about records made and served, and about testing and running.
 -- Assumes nothing.
-use Rattle.std.specs.Prelude.{◌≡◌, ◌⊎◌, List, ◌++◌, map, ℕ, zero, ◌+◌, ◌*◌, ◌%◌, ◌≤◌, ◌<◌, length, take, drop}
+use Rattle.std.specs.Prelude.{◌≡◌, ◌⊎◌, List, ◌++◌, map, ℕ, zero, ◌+◌, ◌*◌, ◌%◌, ◌≤◌, ◌<◌, length, take, drop, Some, None, Ok, Err}
 use Rattle.lists.specs.Table.{at, tabulate}
 use Rattle.cells.specs.Cell.{cell_at, bytes_of}
 use Rattle.residue.specs.Factors.{prime_powers}
@@ -12,26 +12,21 @@ use Rattle.recurrence.specs.Working.{sheet_of, rows_over, replay}
 use Rattle.steps.specs.declared.StepRecord.{StepRecord}
 use Rattle.steps.specs.Log.{step_record, step_of}
 use Rattle.sequence.specs.declared.Sequence.{Sequence}
-use Rattle.sequence.specs.declared.Outcome.{Outcome}
-use Rattle.sequence.specs.declared.Outcome.TheVariants.{Done}
-use Rattle.sequence.specs.declared.Reported.{Reported}
 use Rattle.sequence.specs.declared.Refusal.TheVariants.{Buffer}
-use Rattle.sequence.specs.declared.Reported.TheVariants.{Refused}
 use Rattle.sequence.specs.Limits.{max_modulus, max_terms, max_cells, a_bytes, b_bytes, profile_bytes}
 use Rattle.sequence.specs.Rules.{open_of, sequence_of, check_of}
-use Rattle.sequence.specs.Report.{length_told, report_of, a_buffer, b_buffer, written, profile_of, profile_buffer, filled}
+use Rattle.sequence.specs.Report.{length_told, report_of, a_buffer, b_buffer, profile_of, profile_buffer, filled}
 use Rattle.sequence.specs.Trace.{records_of, trace_of, sheet_filled}
-use Rattle.candidate.specs.declared.Verdict.TheVariants.{Yes, No}
 use Rattle.candidate.specs.Rules.{a_cells, b_cells, flaw_of, verify_of, generate_of, generated_in}
-use Rattle.catalogue.specs.declared.LookedUp.TheVariants.{Found, Made}
 use Rattle.catalogue.specs.Rules.{record_bytes, body, a_place, b_place, length_cell, record_of, synthesize_of, record_at, records, look_up_of, editor, served_in}
 use Rattle.guarantees.specs.Calls.{Call, push, after_all, taken}
+use Rattle.sequence.specs.Answers.{Outcome, Reported}
 
 -- What a register and a profile of the terms ts modulo m must show: r and o are their replies, and a, b and cells the lent buffers at exit.
 pub record Shows (m : ℕ) (ts : List ℕ) (r : Reported) (o : Outcome) (a b cells : List ℕ) : Type 0 where
   -- neither is refused
   pub reported : r ≡ length_told m (length ts) (T.register m ts (length ts)).length
-  pub profiled : o ≡ Done
+  pub profiled : o ≡ Ok tt
   -- the register written is the one that the steps, joined by remainders, give for the terms
   pub a_as_cells : a ≡ bytes_of (tabulate max_cells (at (T.register m ts (length ts)).a))
   pub b_as_cells : b ≡ bytes_of (tabulate max_terms (at (T.register m ts (length ts)).b))
@@ -54,12 +49,12 @@ profile_cell m calls cells k =
 abbrev pub ShownBy : ℕ → List ℕ → Sequence → List ℕ → List ℕ → List ℕ → Type 0
 ShownBy m ts s a b cells =
     Shows m ts (report_of s a b) (profile_of s cells)
-    (written (report_of s a b) (a_buffer s) a) (written (report_of s a b) (b_buffer s) b) (filled (profile_of s cells) (profile_buffer s) cells)
+    (filled (report_of s a b) (a_buffer s) a) (filled (report_of s a b) (b_buffer s) b) (filled (profile_of s cells) (profile_buffer s) cells)
 
 -- Demand 3: for every modulus within the limits opening is not refused, and after every list of calls the register and the profile
 -- show the terms taken.
 pub record EveryList (m : ℕ) : Type 0 where
-  pub opened : (open_of m).outcome ≡ Done
+  pub opened : (open_of m).outcome ≡ Ok tt
   pub shows :
       (calls : List Call) (a b cells : List ℕ) → length a ≡ a_bytes → length b ≡ b_bytes → length cells ≡ profile_bytes
       → ShownBy m (taken m calls) (after_all (open_of m).sequence calls) a b cells
@@ -85,13 +80,13 @@ pub record Works (m : ℕ) (ts : List ℕ) (r : Reported) (a b : List ℕ) (lent
 abbrev pub WorkedBy : ℕ → List ℕ → Sequence → List ℕ → List ℕ → List StepRecord → Type 0
 WorkedBy m ts s a b lent =
     let r = trace_of s a b (length lent) in
-    Works m ts r (written r (a_buffer s) a) (written r (b_buffer s) b) lent (sheet_filled r (records_of s) lent)
+    Works m ts r (filled r (a_buffer s) a) (filled r (b_buffer s) b) lent (sheet_filled r (records_of s) lent)
 
 -- a trace that is refused by 5, and leaves all that was lent as it was
 pub record TooShort (s : Sequence) (a b : List ℕ) (lent : List StepRecord) : Type 0 where
-  pub refused : trace_of s a b (length lent) ≡ Refused Buffer
-  pub a_lent : written (trace_of s a b (length lent)) (a_buffer s) a ≡ a
-  pub b_lent : written (trace_of s a b (length lent)) (b_buffer s) b ≡ b
+  pub refused : trace_of s a b (length lent) ≡ Err Buffer
+  pub a_lent : filled (trace_of s a b (length lent)) (a_buffer s) a ≡ a
+  pub b_lent : filled (trace_of s a b (length lent)) (b_buffer s) b ≡ b
   pub sheet_lent : sheet_filled (trace_of s a b (length lent)) (records_of s) lent ≡ lent
 
 -- A trace of the sequence s of terms ts: one whose sheet has n records for each row shows the working, one whose sheet has fewer is refused.
@@ -111,7 +106,7 @@ TheWorking =
 pub record MadeRecord (entry : List ℕ) : Type 0 where
   pub query : List ℕ
   pub out : List ℕ
-  pub made : synthesize_of query out ≡ Done
+  pub made : synthesize_of query out ≡ Ok tt
   pub same : body entry ≡ body (filled (synthesize_of query out) (record_of query) out)
 
 -- a catalogue of such records, end to end; the empty one is such
@@ -131,17 +126,17 @@ length_made query out = cell_at (filled (synthesize_of query out) (record_of que
 pub record AgreesWith (m : ℕ) (calls : List Call) (a b entry : List ℕ) : Type 0 where
   pub length_same : report_of (after_all (open_of m).sequence calls) a b ≡ length_told m (length (taken m calls)) (cell_at entry length_cell)
   pub a_same :
-      written (report_of (after_all (open_of m).sequence calls) a b) (a_buffer (after_all (open_of m).sequence calls)) a ≡ take a_bytes (drop a_place entry)
+      filled (report_of (after_all (open_of m).sequence calls) a b) (a_buffer (after_all (open_of m).sequence calls)) a ≡ take a_bytes (drop a_place entry)
   pub b_same :
-      written (report_of (after_all (open_of m).sequence calls) a b) (b_buffer (after_all (open_of m).sequence calls)) b ≡ take b_bytes (drop b_place entry)
+      filled (report_of (after_all (open_of m).sequence calls) a b) (b_buffer (after_all (open_of m).sequence calls)) b ≡ take b_bytes (drop b_place entry)
 
 -- For a query that meets no refusal of its own and a catalogue made by this software, whoever asks: making and serving are not refused,
 -- and the record made, the record served and the register after any calls that take the query's terms are the same.
 pub record Same (query catalogue : List ℕ) (who : ℕ) (out : List ℕ) : Type 0 where
   -- there are such calls: pushing the terms one by one
   pub pushed : taken (cell_at query 0) (map push (terms_of query)) ≡ terms_of query
-  pub made : synthesize_of query out ≡ Done
-  pub served : ((i : ℕ) × (look_up_of query catalogue out ≡ Found i)) ⊎ (look_up_of query catalogue out ≡ Made)
+  pub made : synthesize_of query out ≡ Ok tt
+  pub served : ((i : ℕ) × (look_up_of query catalogue out ≡ Ok (Some i))) ⊎ (look_up_of query catalogue out ≡ Ok None)
   pub record_made :
       (calls : List Call) (a b : List ℕ) → taken (cell_at query 0) calls ≡ terms_of query → length a ≡ a_bytes → length b ≡ b_bytes
       → AgreesWith (cell_at query 0) calls a b (filled (synthesize_of query out) (record_of query) out)
@@ -155,7 +150,7 @@ pub record Same (query catalogue : List ℕ) (who : ℕ) (out : List ℕ) : Type
 
 unfoldable pub MadeServedReported : Type 0
 MadeServedReported =
-    (query catalogue : List ℕ) (who : ℕ) (out : List ℕ) → check_of query ≡ Done → MadeCatalogue catalogue → length out ≡ record_bytes
+    (query catalogue : List ℕ) (who : ℕ) (out : List ℕ) → check_of query ≡ Ok tt → MadeCatalogue catalogue → length out ≡ record_bytes
     → Same query catalogue who out
 
 -- ---- testing and running
@@ -173,18 +168,18 @@ pub record DiffersAt (query ran : List ℕ) (j : ℕ) : Type 0 where
 -- A candidate tested against a query, and run for as many cells as the query has terms.
 pub record Tested (query a b : List ℕ) (l : ℕ) (cells : List ℕ) : Type 0 where
   -- running is not refused
-  pub ran : generate_of (cell_at query 0) a b l cells ≡ Done
+  pub ran : generate_of (cell_at query 0) a b l cells ≡ Ok tt
   -- testing says yes exactly when running writes the query's terms
-  pub yes_runs : verify_of query a b l ≡ Yes → ran_in query a b l cells ≡ bytes_of (terms_of query)
-  pub runs_yes : ran_in query a b l cells ≡ bytes_of (terms_of query) → verify_of query a b l ≡ Yes
+  pub yes_runs : verify_of query a b l ≡ Ok None → ran_in query a b l cells ≡ bytes_of (terms_of query)
+  pub runs_yes : ran_in query a b l cells ≡ bytes_of (terms_of query) → verify_of query a b l ≡ Ok None
   -- which are the bytes in the query itself; a list that holds more than bytes is no query that a call can be handed
   pub own_bytes : ((i : ℕ) → at query i < 256) → bytes_of (terms_of query) ≡ take (2 * cell_at query 1) (drop 4 query)
   -- it says no with place j exactly when j is the first place where they differ
-  pub no_differs : (j : ℕ) → verify_of query a b l ≡ No j → DiffersAt query (ran_in query a b l cells) j
-  pub differs_no : (j : ℕ) → DiffersAt query (ran_in query a b l cells) j → verify_of query a b l ≡ No j
+  pub no_differs : (j : ℕ) → verify_of query a b l ≡ Ok (Some j) → DiffersAt query (ran_in query a b l cells) j
+  pub differs_no : (j : ℕ) → DiffersAt query (ran_in query a b l cells) j → verify_of query a b l ≡ Ok (Some j)
 
 -- For a query that meets no refusal of its own and a candidate without a flaw, of any length that one may have.
 unfoldable pub TestedByRunning : Type 0
 TestedByRunning =
-    (query a b : List ℕ) (l : ℕ) (cells : List ℕ) → check_of query ≡ Done → length a ≡ a_bytes → length b ≡ b_bytes
-    → flaw_of (cell_at query 0) l (a_cells a) (b_cells b) ≡ Done → length cells ≡ 2 * cell_at query 1 → Tested query a b l cells
+    (query a b : List ℕ) (l : ℕ) (cells : List ℕ) → check_of query ≡ Ok tt → length a ≡ a_bytes → length b ≡ b_bytes
+    → flaw_of (cell_at query 0) l (a_cells a) (b_cells b) ≡ Ok tt → length cells ≡ 2 * cell_at query 1 → Tested query a b l cells

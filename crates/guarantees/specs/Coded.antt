@@ -3,7 +3,7 @@
 use Rattle.std.specs.Prelude.{List, [], ◌∷◌, map, ℕ, zero, suc}
 use Rattle.sequence.specs.declared.Sequence.{Sequence}
 use Rattle.sequence.specs.Rules.{open_of, push_of}
-use Rattle.sequence.specs.Report.{report_of, a_buffer, b_buffer, written, profile_of, profile_buffer, filled}
+use Rattle.sequence.specs.Report.{report_of, a_buffer, b_buffer, profile_of, profile_buffer, filled}
 use Rattle.column.specs.Rules.{push_all_of}
 use Rattle.guarantees.specs.declared.Replies.{Replies}
 use Rattle.guarantees.specs.Calls.{Call, push, push_all, register, profile, taken}
@@ -36,7 +36,7 @@ unfoldable pub after_register : State → State
 after_register x =
     let s = x.sequence in
     let r = report_of s x.a x.b in
-    state_of s (written r (a_buffer s) x.a) (written r (b_buffer s) x.b) x.cells
+    state_of s (filled r (a_buffer s) x.a) (filled r (b_buffer s) x.b) x.cells
 
 -- after a profile
 unfoldable pub after_profile : State → State

@@ -1,11 +1,10 @@
 -- The claims about columns: how each one ends, that it does what pushing its terms singly does, and what it stands for in a list of calls.
 -- Assumes nothing.
-use Rattle.std.specs.Prelude.{◌≡◌, ◌⊎◌, List, [], ◌∷◌, ◌++◌, map, ℕ, zero, ◌+◌, ◌%◌, ◌≤◌, ◌<◌, length, take}
+use Rattle.std.specs.Prelude.{◌≡◌, ◌⊎◌, List, [], ◌∷◌, ◌++◌, map, ℕ, zero, ◌+◌, ◌%◌, ◌≤◌, ◌<◌, length, take, Ok, Err}
 use Rattle.lists.specs.Table.{at}
 use Rattle.cells.specs.Cell.{bytes_of}
 use Rattle.sequence.specs.declared.Sequence.{Sequence}
 use Rattle.sequence.specs.declared.Refusal.TheVariants as R
-use Rattle.sequence.specs.declared.Outcome.TheVariants.{Done, Refused}
 use Rattle.sequence.specs.Limits.{max_modulus, max_terms}
 use Rattle.sequence.specs.Rules.{IsSound, open_of, push_of}
 use Rattle.column.specs.declared.PushedAll.{PushedAll}
@@ -17,11 +16,11 @@ use Rattle.guarantees.specs.Calls.{Call, push, push_all, after_all, taken}
 -- where it ends: no two of these hold together
 pub data Ends (s : Sequence) (ts : List ℕ) (r : PushedAll) : Type 0 where
   -- all terms are taken
-  all : r.taken ≡ length ts → r.outcome ≡ Done → Ends s ts r
+  all : r.taken ≡ length ts → r.outcome ≡ Ok tt → Ends s ts r
   -- the next one is reached when 128 are held
-  full : r.taken < length ts → s.count + r.taken ≡ max_terms → r.outcome ≡ Refused R.Full → Ends s ts r
+  full : r.taken < length ts → s.count + r.taken ≡ max_terms → r.outcome ≡ Err R.Full → Ends s ts r
   -- the next one is not below the modulus; 3 carries the number of terms held then
-  large : r.taken < length ts → s.count + r.taken < max_terms → s.modulus ≤ at ts r.taken → r.outcome ≡ Refused (R.Term (s.count + r.taken)) → Ends s ts r
+  large : r.taken < length ts → s.count + r.taken < max_terms → s.modulus ≤ at ts r.taken → r.outcome ≡ Err (R.Term (s.count + r.taken)) → Ends s ts r
 
 pub record Takes (s : Sequence) (ts : List ℕ) (r : PushedAll) : Type 0 where
   -- each term taken is below the modulus, and there is room for it
@@ -42,12 +41,12 @@ after_first s ts n = after_all s (map push (take n ts))
 -- how single pushes go on: there is no other term, or the next one is refused, and the column is refused as it is
 abbrev pub EndsSingly : List ℕ → PushedAll → Type 0
 EndsSingly ts r =
-    ((r.taken ≡ length ts) × (r.outcome ≡ Done))
-    ⊎ ((r.taken < length ts) × (r.outcome ≡ (push_of r.sequence (at ts r.taken)).outcome) × (r.outcome ≡ Done → ⊥))
+    ((r.taken ≡ length ts) × (r.outcome ≡ Ok tt))
+    ⊎ ((r.taken < length ts) × (r.outcome ≡ (push_of r.sequence (at ts r.taken)).outcome) × (r.outcome ≡ Ok tt → ⊥))
 
 pub record Singly (s : Sequence) (ts : List ℕ) (r : PushedAll) : Type 0 where
   -- each term taken is taken when it is pushed, and the sequence is the one that these pushes leave
-  pub each : (i : ℕ) → i < r.taken → (push_of (after_first s ts i) (at ts i)).outcome ≡ Done
+  pub each : (i : ℕ) → i < r.taken → (push_of (after_first s ts i) (at ts i)).outcome ≡ Ok tt
   pub sequence : r.sequence ≡ after_first s ts r.taken
   pub ends : EndsSingly ts r
 
@@ -75,8 +74,8 @@ pub record StandsFor (m : ℕ) (calls : List Call) (list : List ℕ) (rest : Lis
 
 pub record EveryColumn : Type 0 where
   -- 5 for an odd number of bytes, else 21 for a sequence that is not sound, also where the column is empty: none is taken, and the sequence is as it came
-  pub odd : (s : Sequence) (list : List ℕ) → (length list % 2 ≡ zero → ⊥) → push_all_of s list ≡ took zero s (Refused R.Buffer)
-  pub unsound : (s : Sequence) (list : List ℕ) → length list % 2 ≡ zero → (IsSound s → ⊥) → push_all_of s list ≡ took zero s (Refused R.Sequence)
+  pub odd : (s : Sequence) (list : List ℕ) → (length list % 2 ≡ zero → ⊥) → push_all_of s list ≡ took zero s (Err R.Buffer)
+  pub unsound : (s : Sequence) (list : List ℕ) → length list % 2 ≡ zero → (IsSound s → ⊥) → push_all_of s list ≡ took zero s (Err R.Sequence)
   -- any other, of whatever length
   pub takes : (s : Sequence) (list : List ℕ) → length list % 2 ≡ zero → IsSound s → Takes s (terms_in list) (push_all_of s list)
   pub singly : (s : Sequence) (list : List ℕ) → length list % 2 ≡ zero → IsSound s → Singly s (terms_in list) (push_all_of s list)

@@ -1,7 +1,7 @@
 -- The claims about the listing: what the order and the start of a register are, and that a line shows the register that is reported and that
 -- stands in records.
 -- Assumes nothing.
-use Rattle.std.specs.Prelude.{◌≡◌, List, [], ◌∷◌, true, ℕ, zero, suc, ◌≤◌, ◌<◌, length, take}
+use Rattle.std.specs.Prelude.{◌≡◌, List, [], ◌∷◌, true, ℕ, zero, suc, ◌≤◌, ◌<◌, length, take, Ok}
 use Rattle.lists.specs.Table.{at, tabulate}
 use Rattle.lists.specs.Search.{every}
 use Rattle.lists.specs.Text.{bytes}
@@ -10,13 +10,10 @@ use Rattle.residue.specs.Congruence.{Cong}
 use Rattle.recurrence.specs.Polynomial.{conv, degree}
 use Rattle.recurrence.specs.Least.{Least}
 use Rattle.sequence.specs.declared.Sequence.{Sequence}
-use Rattle.sequence.specs.declared.Outcome.TheVariants.{Done}
 use Rattle.sequence.specs.declared.Uniqueness.TheVariants.{Sole, Several, NotTold}
-use Rattle.sequence.specs.declared.Reported.{Reported}
-use Rattle.sequence.specs.declared.Reported.TheVariants.{Length}
 use Rattle.sequence.specs.Limits.{max_modulus, a_bytes, b_bytes}
 use Rattle.sequence.specs.Rules.{open_of, check_of, query_of}
-use Rattle.sequence.specs.Report.{length_told, report_of, a_buffer, written, filled}
+use Rattle.sequence.specs.Report.{length_told, report_of, a_buffer, filled}
 use Rattle.lines.specs.Form.{is_digit, decimal}
 use Rattle.candidate.specs.Rules.{a_cells}
 use Rattle.catalogue.specs.Rules.{record_bytes, record_of, synthesize_of, look_up_of, served_in}
@@ -24,6 +21,7 @@ use Rattle.formatting.specs.Text.{numeral}
 use Rattle.formatting.specs.Listing.{header, register_line, record_line, query_line, reported_line, uniqueness_line, typed_line}
 use Rattle.guarantees.specs.Calls.{Call, after_all, taken}
 use Rattle.guarantees.specs.Claims.{MadeCatalogue, terms_of}
+use Rattle.sequence.specs.Answers.{Reported, of_length}
 
 -- The rule with the coefficients a holds from place s of the terms on: for every j from s to the last, a_0 S_j + a_1 S_(j-1) + a_2 S_(j-2) + .. is
 -- 0 modulo m, where there are no terms before S_0.
@@ -53,7 +51,7 @@ pub record Ordered (m : ℕ) (ts : List ℕ) (r : Reported) (a : List ℕ) : Typ
 
 -- the buffer a after a register of the sequence
 abbrev pub a_after : Sequence → List ℕ → List ℕ → List ℕ
-a_after s a b = written (report_of s a b) (a_buffer s) a
+a_after s a b = filled (report_of s a b) (a_buffer s) a
 
 -- For every modulus within the limits, after every list of calls, of the terms taken.
 unfoldable pub EveryOrder : Type 0
@@ -75,7 +73,7 @@ pub record Listed (query catalogue : List ℕ) (who : ℕ) (out : List ℕ) (s :
 -- For a query that meets no refusal of its own, a catalogue made by this software, and any calls that take the query's terms.
 unfoldable pub TheListing : Type 0
 TheListing =
-    (query catalogue : List ℕ) (who : ℕ) (out : List ℕ) → check_of query ≡ Done → MadeCatalogue catalogue → length out ≡ record_bytes
+    (query catalogue : List ℕ) (who : ℕ) (out : List ℕ) → check_of query ≡ Ok tt → MadeCatalogue catalogue → length out ≡ record_bytes
     → (calls : List Call) (a b : List ℕ)
     → taken (cell_at query 0) calls ≡ terms_of query → length a ≡ a_bytes → length b ≡ b_bytes
     → Listed query catalogue who out (after_all (open_of (cell_at query 0)).sequence calls) a b
@@ -110,9 +108,9 @@ pub record Printed : Type 0 where
   pub refused : line_for 1 [] ≡ bytes "refused 1\n"
   pub refused_at_lem : line_for 9 (6 ∷ 3 ∷ 1 ∷ 5 ∷ 6 ∷ 6 ∷ 3 ∷ 9 ∷ 8 ∷ 10 ∷ 9 ∷ []) ≡ bytes "refused 3 at 7\n"
   pub cut_short : query_line (take 100 (query_of 9 (6 ∷ 3 ∷ []))) ≡ bytes "refused 5\n"
-  pub word_sole : uniqueness_line (Length 2 Sole) ≡ bytes "sole\n"
-  pub word_several : uniqueness_line (Length 3 Several) ≡ bytes "several\n"
-  pub word_untold : uniqueness_line (Length 3 NotTold) ≡ bytes "not told\n"
+  pub word_sole : uniqueness_line (of_length 2 Sole) ≡ bytes "sole\n"
+  pub word_several : uniqueness_line (of_length 3 Several) ≡ bytes "several\n"
+  pub word_untold : uniqueness_line (of_length 3 NotTold) ≡ bytes "not told\n"
   pub typed : typed_line (bytes "mod 4: -2,5") ≡ bytes "4 2 0 2 1\n"
   pub typed_27 : typed_line (bytes "mod 9:x") ≡ bytes "refused 27 at 6\n"
   pub typed_28 : typed_line (bytes "mod 9:2147483648x") ≡ bytes "refused 28 at 15\n"

@@ -1,16 +1,14 @@
 -- The claims about two queries that are merged: when each refusal is given, what stands in the merged query, and the least lengths that the calls show
 -- for the three.
 -- Assumes nothing.
-use Rattle.std.specs.Prelude.{◌≡◌, ◌⊎◌, List, ℕ, zero, ◌+◌, ◌%◌, ◌≤◌, ◌<◌, max, length}
+use Rattle.std.specs.Prelude.{◌≡◌, ◌⊎◌, List, ℕ, zero, ◌+◌, ◌%◌, ◌≤◌, ◌<◌, max, length, Ok, Err}
 use Rattle.lists.specs.Table.{at}
 use Rattle.cells.specs.Cell.{cell_at}
 use Rattle.recurrence.specs.Least.{Least}
 use Rattle.sequence.specs.declared.Refusal.{Refusal}
 use Rattle.sequence.specs.declared.Refusal.TheVariants as R
-use Rattle.sequence.specs.declared.Outcome.{Outcome}
-use Rattle.sequence.specs.declared.Outcome.TheVariants.{Done, Refused}
 use Rattle.sequence.specs.Limits.{max_modulus, query_bytes, profile_bytes}
-use Rattle.sequence.specs.Answers.{outcome_answer}
+use Rattle.sequence.specs.Answers.{outcome_answer, Outcome}
 use Rattle.sequence.specs.Rules.{check_of}
 use Rattle.catalogue.specs.Rules.{record_bytes}
 use Rattle.merge.specs.Rules.{merge_of, merge_answer, merged_in}
@@ -52,21 +50,21 @@ pub record Comparable (x y query : List ℕ) : Type 0 where
 -- The reason of a reply: for each reply the condition under which it is given.
 pub data Reason (x y query : List ℕ) (o : Outcome) : Type 0 where
   -- 5: one of the three buffers has another length
-  first_buffer : (length x ≡ query_bytes → ⊥) → o ≡ Refused R.Buffer → Reason x y query o
-  second_buffer : (length y ≡ query_bytes → ⊥) → o ≡ Refused R.Buffer → Reason x y query o
-  query_buffer : (length query ≡ query_bytes → ⊥) → o ≡ Refused R.Buffer → Reason x y query o
+  first_buffer : (length x ≡ query_bytes → ⊥) → o ≡ Err R.Buffer → Reason x y query o
+  second_buffer : (length y ≡ query_bytes → ⊥) → o ≡ Err R.Buffer → Reason x y query o
+  query_buffer : (length query ≡ query_bytes → ⊥) → o ≡ Err R.Buffer → Reason x y query o
   -- 1, 2, 3 or 4: what the first query's own check refuses, then the second's where the first is clean
-  first_own : (r : Refusal) → length x ≡ query_bytes → length y ≡ query_bytes → length query ≡ query_bytes → check_of x ≡ Refused r → o ≡ Refused r → Reason x y query o
-  second_own : (r : Refusal) → Clean x → length y ≡ query_bytes → length query ≡ query_bytes → check_of y ≡ Refused r → o ≡ Refused r → Reason x y query o
+  first_own : (r : Refusal) → length x ≡ query_bytes → length y ≡ query_bytes → length query ≡ query_bytes → check_of x ≡ Err r → o ≡ Err r → Reason x y query o
+  second_own : (r : Refusal) → Clean x → length y ≡ query_bytes → length query ≡ query_bytes → check_of y ≡ Err r → o ≡ Err r → Reason x y query o
   -- 29, 30, 31
-  counts : Comparable x y query → (cell_at x 1 ≡ cell_at y 1 → ⊥) → o ≡ Refused R.CountsDiffer → Reason x y query o
-  multiple : (m : ℕ) → Comparable x y query → cell_at x 1 ≡ cell_at y 1 → LeastMultiple (cell_at x 0) (cell_at y 0) m → max_modulus < m → o ≡ Refused R.MultipleAbove → Reason x y query o
+  counts : Comparable x y query → (cell_at x 1 ≡ cell_at y 1 → ⊥) → o ≡ Err R.CountsDiffer → Reason x y query o
+  multiple : (m : ℕ) → Comparable x y query → cell_at x 1 ≡ cell_at y 1 → LeastMultiple (cell_at x 0) (cell_at y 0) m → max_modulus < m → o ≡ Err R.MultipleAbove → Reason x y query o
   terms :
       (m g i : ℕ) → Comparable x y query → cell_at x 1 ≡ cell_at y 1 → LeastMultiple (cell_at x 0) (cell_at y 0) m → m ≤ max_modulus → GreatestDivisor (cell_at x 0) (cell_at y 0) g
-      → i < cell_at x 1 → (AgreeAt x y g i → ⊥) → ((j : ℕ) → j < i → AgreeAt x y g j) → o ≡ Refused (R.TermsDisagree i) → Reason x y query o
+      → i < cell_at x 1 → (AgreeAt x y g i → ⊥) → ((j : ℕ) → j < i → AgreeAt x y g j) → o ≡ Err (R.TermsDisagree i) → Reason x y query o
   done :
       (m g : ℕ) → Comparable x y query → cell_at x 1 ≡ cell_at y 1 → LeastMultiple (cell_at x 0) (cell_at y 0) m → m ≤ max_modulus → GreatestDivisor (cell_at x 0) (cell_at y 0) g
-      → ((j : ℕ) → j < cell_at x 1 → AgreeAt x y g j) → o ≡ Done → Reason x y query o
+      → ((j : ℕ) → j < cell_at x 1 → AgreeAt x y g j) → o ≡ Ok tt → Reason x y query o
 
 -- ---- the merged query
 
@@ -77,7 +75,7 @@ Takes calls query = taken (cell_at query 0) calls ≡ terms_of query
 -- What a merger of the queries x and y leaves in the buffer z.
 pub record IsMerged (x y z : List ℕ) : Type 0 where
   -- it meets no refusal of its own; its modulus is the least common multiple, its count theirs
-  pub passes : check_of z ≡ Done
+  pub passes : check_of z ≡ Ok tt
   pub clean : Clean z
   pub modulus : LeastMultiple (cell_at x 0) (cell_at y 0) (cell_at z 0)
   pub first_count : cell_at z 1 ≡ cell_at x 1
@@ -108,20 +106,20 @@ pub record Merges (x y query : List ℕ) : Type 0 where
   pub reason : Reason x y query (merge_of x y query)
   pub exactly : (o : Outcome) → Reason x y query o → merge_of x y query ≡ o
   -- 3 has the first wrong place of the first query, or, where that is clean, of the second; and back
-  pub wrong_term : (i : ℕ) → merge_of x y query ≡ Refused (R.Term i) → (Readable x × FirstWrong x i) ⊎ (Clean x × Readable y × FirstWrong y i)
-  pub first_wrong : (i : ℕ) → Readable x → FirstWrong x i → length y ≡ query_bytes → length query ≡ query_bytes → merge_of x y query ≡ Refused (R.Term i)
-  pub second_wrong : (i : ℕ) → Clean x → Readable y → FirstWrong y i → length query ≡ query_bytes → merge_of x y query ≡ Refused (R.Term i)
+  pub wrong_term : (i : ℕ) → merge_of x y query ≡ Err (R.Term i) → (Readable x × FirstWrong x i) ⊎ (Clean x × Readable y × FirstWrong y i)
+  pub first_wrong : (i : ℕ) → Readable x → FirstWrong x i → length y ≡ query_bytes → length query ≡ query_bytes → merge_of x y query ≡ Err (R.Term i)
+  pub second_wrong : (i : ℕ) → Clean x → Readable y → FirstWrong y i → length query ≡ query_bytes → merge_of x y query ≡ Err (R.Term i)
   -- 31 is given exactly where no number leaves both terms, at the first such place
-  pub apart_none : (i : ℕ) → merge_of x y query ≡ Refused (R.TermsDisagree i) → (v : ℕ) → LeavesBoth x y i v → ⊥
-  pub apart_first : (i : ℕ) → merge_of x y query ≡ Refused (R.TermsDisagree i) → (j : ℕ) → j < i → (v : ℕ) × LeavesBoth x y j v
+  pub apart_none : (i : ℕ) → merge_of x y query ≡ Err (R.TermsDisagree i) → (v : ℕ) → LeavesBoth x y i v → ⊥
+  pub apart_first : (i : ℕ) → merge_of x y query ≡ Err (R.TermsDisagree i) → (j : ℕ) → j < i → (v : ℕ) × LeavesBoth x y j v
   pub none_apart :
       (m i : ℕ) → Comparable x y query → cell_at x 1 ≡ cell_at y 1 → LeastMultiple (cell_at x 0) (cell_at y 0) m → m ≤ max_modulus → i < cell_at x 1
-      → ((v : ℕ) → LeavesBoth x y i v → ⊥) → ((j : ℕ) → j < i → (v : ℕ) × LeavesBoth x y j v) → merge_of x y query ≡ Refused (R.TermsDisagree i)
+      → ((v : ℕ) → LeavesBoth x y i v → ⊥) → ((j : ℕ) → j < i → (v : ℕ) × LeavesBoth x y j v) → merge_of x y query ≡ Err (R.TermsDisagree i)
   -- by number it is the answer that the calls promise, for C too
   pub by_number : outcome_answer (merge_of x y query) ≡ merge_answer x y query
   -- on a refusal the buffer is as lent; otherwise it holds the merged query
-  pub kept : (merge_of x y query ≡ Done → ⊥) → merged_exit x y query ≡ query
-  pub merged : merge_of x y query ≡ Done → IsMerged x y (merged_exit x y query)
+  pub kept : (merge_of x y query ≡ Ok tt → ⊥) → merged_exit x y query ≡ query
+  pub merged : merge_of x y query ≡ Ok tt → IsMerged x y (merged_exit x y query)
 
 -- for any three buffers
 unfoldable pub TwoQueries : Type 0

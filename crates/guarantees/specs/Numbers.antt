@@ -1,13 +1,12 @@
 -- The paper's numbers, and those for C: an answer of each kind, and one for each condition of each refusal; and the order of refusals. Typed lines,
 -- with 27 and 28, are in Typed.
 -- Assumes nothing.
-use Rattle.std.specs.Prelude.{◌≡◌, List, [], ◌∷◌, ◌++◌, ℕ, ◌+◌, ◌*◌, ◌-◌, length, drop, replicate}
+use Rattle.std.specs.Prelude.{◌≡◌, List, [], ◌∷◌, ◌++◌, ℕ, ◌+◌, ◌*◌, ◌-◌, length, drop, replicate, Ok, Err}
 use Rattle.lists.specs.Table.{at, tabulate}
 use Rattle.cells.specs.Cell.{bytes_of}
 use Rattle.steps.specs.declared.StepRecord.{StepRecord}
 use Rattle.sequence.specs.declared.Sequence.{Sequence}
 use Rattle.sequence.specs.declared.Refusal.TheVariants.{Term, Full}
-use Rattle.sequence.specs.declared.Outcome.TheVariants.{Done, Refused}
 use Rattle.sequence.specs.Limits.{max_terms, query_bytes, a_bytes, b_bytes, profile_bytes}
 use Rattle.sequence.specs.Answers.{Answer, granted, refused, refused_at}
 use Rattle.sequence.specs.Rules.{open_of, open_answer, push_answer, query_of}
@@ -99,16 +98,16 @@ pub record Numbers : Type 0 where
   pub pushed_128 : column_to (open_of 2).sequence (replicate 128 1) ≡ granted []
   pub column_stays :
       push_all_of (after 9 (6 ∷ [])) (bytes_of (3 ∷ 9 ∷ 5 ∷ []))
-      ≡ record { sequence = after 9 (6 ∷ 3 ∷ []); taken = 1; outcome = Refused (Term 2) }
+      ≡ record { sequence = after 9 (6 ∷ 3 ∷ []); taken = 1; outcome = Err (Term 2) }
   pub column_whole :
       push_all_of (after 9 (6 ∷ [])) (bytes_of (3 ∷ 1 ∷ 5 ∷ 6 ∷ []))
-      ≡ record { sequence = after 9 (6 ∷ 3 ∷ 1 ∷ 5 ∷ 6 ∷ []); taken = 4; outcome = Done }
+      ≡ record { sequence = after 9 (6 ∷ 3 ∷ 1 ∷ 5 ∷ 6 ∷ []); taken = 4; outcome = Ok tt }
   pub column_bytes :
       push_all_of (open_of 4095).sequence (254 ∷ 15 ∷ 255 ∷ 15 ∷ [])
-      ≡ record { sequence = after 4095 (4094 ∷ []); taken = 1; outcome = Refused (Term 1) }
+      ≡ record { sequence = after 4095 (4094 ∷ []); taken = 1; outcome = Err (Term 1) }
   pub column_ends_full :
       push_all_of (forged 2 127 []) (bytes_of (1 ∷ 0 ∷ 0 ∷ []))
-      ≡ record { sequence = forged 2 128 (replicate 127 0 ++ (1 ∷ [])); taken = 1; outcome = Refused Full }
+      ≡ record { sequence = forged 2 128 (replicate 127 0 ++ (1 ∷ [])); taken = 1; outcome = Err Full }
   pub reported : register_to (after 9 (6 ∷ 3 ∷ 1 ∷ 5 ∷ 6 ∷ [])) ≡ granted (3 ∷ 0 ∷ [])
   pub reported_sole : register_to (after 7 (1 ∷ 1 ∷ 2 ∷ 3 ∷ [])) ≡ granted (2 ∷ 1 ∷ [])
   pub reported_several : register_to (after 2 (0 ∷ 0 ∷ 1 ∷ [])) ≡ granted (3 ∷ 2 ∷ [])

@@ -12,14 +12,13 @@ use Rattle.counting.specs.Solutions.{Solves, solutions, CountsLists, NoSecond, S
 use Rattle.steps.specs.declared.StepRecord.{StepRecord}
 use Rattle.sequence.specs.declared.Uniqueness.{Uniqueness}
 use Rattle.sequence.specs.declared.Uniqueness.TheVariants.{Sole, Several, NotTold}
-use Rattle.sequence.specs.declared.Reported.{Reported}
-use Rattle.sequence.specs.declared.Reported.TheVariants.{Length}
 use Rattle.sequence.specs.Limits.{max_modulus, a_bytes, b_bytes}
 use Rattle.sequence.specs.Rules.{open_of}
-use Rattle.sequence.specs.Report.{report_of, a_buffer, written}
+use Rattle.sequence.specs.Report.{report_of, a_buffer, filled}
 use Rattle.sequence.specs.Trace.{trace_of}
 use Rattle.guarantees.specs.Calls.{Call, after_all, taken}
 use Rattle.guarantees.specs.Cases.{reply}
+use Rattle.sequence.specs.Answers.{Reported, of_length}
 
 -- What the word says for a prime m, where l is the least length of the n terms ts, and the list c of l numbers below m generates them (`Says`).
 pub record ToldOf (m : ℕ) (ts : List ℕ) (l : ℕ) (c : List ℕ) (word : Uniqueness) : Type 0 where
@@ -45,7 +44,7 @@ list_in l a = tabulate l (λ i. cell_at a (suc i))
 pub record Says (m : ℕ) (ts : List ℕ) (r : Reported) (a : List ℕ) : Type 0 where
   pub l : ℕ
   pub word : Uniqueness
-  pub reported : r ≡ Length l word
+  pub reported : r ≡ of_length l word
   pub least : Least m (at ts) (length ts) l
   -- the list that is written has l numbers below m and generates the terms
   pub list_of : ListOf m l (list_in l a)
@@ -61,11 +60,11 @@ pub record Says (m : ℕ) (ts : List ℕ) (r : Reported) (a : List ℕ) : Type 0
 pub record SaysAfter (m : ℕ) (calls : List Call) (a b : List ℕ) : Type 0 where
   pub register :
       let s = after_all (open_of m).sequence calls in
-      Says m (taken m calls) (report_of s a b) (written (report_of s a b) (a_buffer s) a)
+      Says m (taken m calls) (report_of s a b) (filled (report_of s a b) (a_buffer s) a)
   pub trace :
       (lent : List StepRecord) → length (taken m calls) * rows_over (prime_powers m) ≤ length lent
       → let s = after_all (open_of m).sequence calls in
-      Says m (taken m calls) (trace_of s a b (length lent)) (written (trace_of s a b (length lent)) (a_buffer s) a)
+      Says m (taken m calls) (trace_of s a b (length lent)) (filled (trace_of s a b (length lent)) (a_buffer s) a)
 
 -- For every modulus within the limits, after every list of calls.
 unfoldable pub TheOnlyOne : Type 0
@@ -88,23 +87,23 @@ answered m ts = (reply m ts 0).answer
 
 pub record OnlyRows : Type 0 where
   -- 02's example: three lists, those of 0, 3 and 6 and no other, and not told
-  pub nine : reply 9 (3 ∷ 0 ∷ []) 1 ≡ record { answer = Length 1 NotTold; a = 1 ∷ 0 ∷ []; b = 3 ∷ [] }
+  pub nine : reply 9 (3 ∷ 0 ∷ []) 1 ≡ record { answer = of_length 1 NotTold; a = 1 ∷ 0 ∷ []; b = 3 ∷ [] }
   pub nine_three : lists_for 9 (3 ∷ 0 ∷ []) 1 ≡ 3
   pub nine_which : (c : ℕ) → c < 9 → Solves 9 (3 ∷ 0 ∷ []) 2 (c ∷ []) → OneOf036 c
   pub which_nine : (c : ℕ) → OneOf036 c → Solves 9 (3 ∷ 0 ∷ []) 2 (c ∷ [])
   -- not told where there is only one
-  pub six : answered 6 (1 ∷ 0 ∷ []) ≡ Length 1 NotTold
+  pub six : answered 6 (1 ∷ 0 ∷ []) ≡ of_length 1 NotTold
   pub six_one : lists_for 6 (1 ∷ 0 ∷ []) 1 ≡ 1
   -- no terms, and no length
-  pub none : answered 2 [] ≡ Length 0 Sole
-  pub zeros : answered 5 (0 ∷ 0 ∷ 0 ∷ []) ≡ Length 0 Sole
+  pub none : answered 2 [] ≡ of_length 0 Sole
+  pub zeros : answered 5 (0 ∷ 0 ∷ 0 ∷ []) ≡ of_length 0 Sole
   -- 2l = n, 2l = n + 1, and l = n
-  pub even : answered 7 (1 ∷ 1 ∷ 2 ∷ 3 ∷ []) ≡ Length 2 Sole
+  pub even : answered 7 (1 ∷ 1 ∷ 2 ∷ 3 ∷ []) ≡ of_length 2 Sole
   pub even_one : lists_for 7 (1 ∷ 1 ∷ 2 ∷ 3 ∷ []) 2 ≡ 1
-  pub odd : answered 5 (1 ∷ 1 ∷ 2 ∷ []) ≡ Length 2 Several
+  pub odd : answered 5 (1 ∷ 1 ∷ 2 ∷ []) ≡ of_length 2 Several
   pub odd_five : lists_for 5 (1 ∷ 1 ∷ 2 ∷ []) 2 ≡ 5
-  pub two : answered 2 (1 ∷ 1 ∷ []) ≡ Length 1 Sole
-  pub two_whole : answered 2 (0 ∷ 0 ∷ 1 ∷ []) ≡ Length 3 Several
+  pub two : answered 2 (1 ∷ 1 ∷ []) ≡ of_length 1 Sole
+  pub two_whole : answered 2 (0 ∷ 0 ∷ 1 ∷ []) ≡ of_length 3 Several
   pub two_eight : lists_for 2 (0 ∷ 0 ∷ 1 ∷ []) 3 ≡ 8
   -- the largest modulus
-  pub largest : answered 4095 (1 ∷ []) ≡ Length 1 NotTold
+  pub largest : answered 4095 (1 ∷ []) ≡ of_length 1 NotTold

@@ -1,19 +1,15 @@
 -- The claims about the places that refusals carry, and about 3, 25, 6, 26 and 24: a query's first wrong term, and what is wrong with a candidate.
 -- Assumes nothing.
-use Rattle.std.specs.Prelude.{◌≡◌, ◌⊎◌, List, ℕ, zero, suc, ◌+◌, ◌*◌, ◌/◌, ◌%◌, ◌^◌, ◌≤◌, ◌<◌, length, take, drop}
+use Rattle.std.specs.Prelude.{◌≡◌, ◌⊎◌, List, ℕ, zero, suc, ◌+◌, ◌*◌, ◌/◌, ◌%◌, ◌^◌, ◌≤◌, ◌<◌, length, take, drop, None, Ok, Err}
 use Rattle.lists.specs.Table.{at}
 use Rattle.cells.specs.Cell.{cell_at}
 use Rattle.sequence.specs.declared.Sequence.{Sequence}
 use Rattle.sequence.specs.declared.Refusal.{Refusal}
 use Rattle.sequence.specs.declared.Refusal.TheVariants as R
-use Rattle.sequence.specs.declared.Outcome.TheVariants as O
 use Rattle.sequence.specs.Limits.{max_modulus, max_terms, query_bytes, a_bytes, b_bytes}
 use Rattle.sequence.specs.Answers.{refused, refused_at, refusal}
 use Rattle.sequence.specs.Rules.{IsSound, open_of, push_of, check_of}
-use Rattle.candidate.specs.declared.Verdict.{Verdict}
-use Rattle.candidate.specs.declared.Verdict.TheVariants as W
-use Rattle.candidate.specs.Rules.{a_cells, b_cells, Fits, IsFine, verify_of, generate_of}
-use Rattle.catalogue.specs.declared.LookedUp.TheVariants as S
+use Rattle.candidate.specs.Rules.{a_cells, b_cells, Fits, IsFine, verify_of, generate_of, Verdict}
 use Rattle.catalogue.specs.Rules.{record_bytes, a_place, b_place, length_cell, records, record_at, first_match, synthesize_of, look_up_of}
 use Rattle.codes.specs.Codes.{last_place, code_of}
 use Rattle.guarantees.specs.Calls.{Call, after_all, taken}
@@ -69,21 +65,21 @@ pub record Placed {A : Type 0} (refused : Refusal → A) (reply : A) (lent : Typ
 
 -- a push of t to the sequence s, which is sound and has n terms modulo m: 3 at place n exactly when there is room and t is not below m
 pub record PushPlaced (m n : ℕ) (s : Sequence) (t : ℕ) : Type 0 where
-  pub told_large : (i : ℕ) → (push_of s t).outcome ≡ O.Refused (R.Term i) → (n < max_terms) × (m ≤ t) × (i ≡ n)
-  pub large_told : n < max_terms → m ≤ t → (push_of s t).outcome ≡ O.Refused (R.Term n)
+  pub told_large : (i : ℕ) → (push_of s t).outcome ≡ Err (R.Term i) → (n < max_terms) × (m ≤ t) × (i ≡ n)
+  pub large_told : n < max_terms → m ≤ t → (push_of s t).outcome ≡ Err (R.Term n)
 
 -- every call that replies 3, but for a column, of which Columns says it, a merger, of which Merging does, and a period, of which Periods does; and a query that is clean passes its checks, which is what the claims about records and about testing ask
 pub record EveryPlace : Type 0 where
-  pub passed_clean : (query : List ℕ) → check_of query ≡ O.Done → Clean query
-  pub clean_passed : (query : List ℕ) → Clean query → check_of query ≡ O.Done
+  pub passed_clean : (query : List ℕ) → check_of query ≡ Ok tt → Clean query
+  pub clean_passed : (query : List ℕ) → Clean query → check_of query ≡ Ok tt
   -- the check itself, which every call that is handed a query passes on
-  pub checked : (query : List ℕ) → Placed O.Refused (check_of query) (Unit {0}) query
-  pub synthesized : (query out : List ℕ) → Placed O.Refused (synthesize_of query out) (length out ≡ record_bytes) query
-  pub looked_up : (query catalogue out : List ℕ) → Placed S.Refused (look_up_of query catalogue out) (length out ≡ record_bytes) query
-  pub verified : (query a b : List ℕ) (l : ℕ) → Placed W.Refused (verify_of query a b l) ((length a ≡ a_bytes) × (length b ≡ b_bytes)) query
+  pub checked : (query : List ℕ) → Placed Err (check_of query) (Unit {0}) query
+  pub synthesized : (query out : List ℕ) → Placed Err (synthesize_of query out) (length out ≡ record_bytes) query
+  pub looked_up : (query catalogue out : List ℕ) → Placed Err (look_up_of query catalogue out) (length out ≡ record_bytes) query
+  pub verified : (query a b : List ℕ) (l : ℕ) → Placed Err (verify_of query a b l) ((length a ≡ a_bytes) × (length b ≡ b_bytes)) query
   -- a push to a sound sequence; one to another never gets 3
   pub pushed : (s : Sequence) (t : ℕ) → IsSound s → PushPlaced s.modulus s.count s t
-  pub pushed_sound : (s : Sequence) (t i : ℕ) → (push_of s t).outcome ≡ O.Refused (R.Term i) → IsSound s
+  pub pushed_sound : (s : Sequence) (t i : ℕ) → (push_of s t).outcome ≡ Err (R.Term i) → IsSound s
   -- after every list of calls the place is the number of terms taken
   pub pushed_after :
       (m : ℕ) → 2 ≤ m → m ≤ max_modulus → (calls : List Call) (t : ℕ) → PushPlaced m (length (taken m calls)) (after_all (open_of m).sequence calls) t
@@ -136,17 +132,17 @@ pub record EveryFlaw : Type 0 where
   -- the calls that are handed a candidate
   pub verified :
       (query a b : List ℕ) (l : ℕ)
-      → Flawed W.Refused (verify_of query a b l) ((length a ≡ a_bytes) × (length b ≡ b_bytes) × Clean query) (cell_at query 0) l (a_cells a) (b_cells b)
-  pub generated : (m : ℕ) (a b : List ℕ) (l : ℕ) (cells : List ℕ) → Flawed O.Refused (generate_of m a b l cells) (Runs m a b cells) m l (a_cells a) (b_cells b)
+      → Flawed Err (verify_of query a b l) ((length a ≡ a_bytes) × (length b ≡ b_bytes) × Clean query) (cell_at query 0) l (a_cells a) (b_cells b)
+  pub generated : (m : ℕ) (a b : List ℕ) (l : ℕ) (cells : List ℕ) → Flawed Err (generate_of m a b l cells) (Runs m a b cells) m l (a_cells a) (b_cells b)
   -- looking up gives 24 exactly when it meets a record whose test does not say yes
   pub told_24 :
-      (query catalogue out : List ℕ) → look_up_of query catalogue out ≡ S.Refused R.Record
-      → (i : ℕ) × (MeetsAt query catalogue out i × (test_at query catalogue i ≡ W.Yes → ⊥))
+      (query catalogue out : List ℕ) → look_up_of query catalogue out ≡ Err R.Record
+      → (i : ℕ) × (MeetsAt query catalogue out i × (test_at query catalogue i ≡ Ok None → ⊥))
   pub is_24 :
-      (query catalogue out : List ℕ) (i : ℕ) → MeetsAt query catalogue out i → (test_at query catalogue i ≡ W.Yes → ⊥)
-      → look_up_of query catalogue out ≡ S.Refused R.Record
+      (query catalogue out : List ℕ) (i : ℕ) → MeetsAt query catalogue out i → (test_at query catalogue i ≡ Ok None → ⊥)
+      → look_up_of query catalogue out ≡ Err R.Record
   -- so 24 covers all three, and none of them is passed on
   pub covered :
-      (query catalogue out : List ℕ) (i : ℕ) → MeetsAt query catalogue out i → OneOfThree W.Refused (test_at query catalogue i)
-      → look_up_of query catalogue out ≡ S.Refused R.Record
-  pub never : (query catalogue out : List ℕ) → OneOfThree S.Refused (look_up_of query catalogue out) → ⊥
+      (query catalogue out : List ℕ) (i : ℕ) → MeetsAt query catalogue out i → OneOfThree Err (test_at query catalogue i)
+      → look_up_of query catalogue out ≡ Err R.Record
+  pub never : (query catalogue out : List ℕ) → OneOfThree Err (look_up_of query catalogue out) → ⊥

@@ -1,10 +1,8 @@
 -- The claims about accession numbers: visitors learn nothing of them, an editor is served the record found whole, and a record made has 0.
 -- Assumes nothing.
-use Rattle.std.specs.Prelude.{◌≡◌, List, [], ◌∷◌, ◌++◌, ℕ, ◌<◌, length, drop}
+use Rattle.std.specs.Prelude.{◌≡◌, List, [], ◌∷◌, ◌++◌, ℕ, ◌<◌, length, drop, Some, None, Ok, Err}
 use Rattle.sequence.specs.declared.Refusal.{Refusal}
-use Rattle.sequence.specs.declared.Outcome.TheVariants.{Done}
 use Rattle.sequence.specs.Report.{filled}
-use Rattle.catalogue.specs.declared.LookedUp.TheVariants.{Found, Made, Refused}
 use Rattle.catalogue.specs.Rules.{body_bytes, body, record_of, synthesize_of, record_at, records, look_up_of, look_up_answer, editor, served_in}
 use Rattle.codes.specs.Codes.{code_of}
 
@@ -32,19 +30,19 @@ NothingLearned = (query c c' out : List ℕ) → SameButNumbers c c' → Alike q
 -- What who asks is served from any catalogue.
 pub record ServedTo (who : ℕ) (query catalogue out : List ℕ) : Type 0 where
   -- an editor the record found, whole; a visitor its body and 0 in the last two bytes
-  pub editor_found : who ≡ editor → (i : ℕ) → look_up_of query catalogue out ≡ Found i → served_from who query catalogue out ≡ record_at catalogue i
+  pub editor_found : who ≡ editor → (i : ℕ) → look_up_of query catalogue out ≡ Ok (Some i) → served_from who query catalogue out ≡ record_at catalogue i
   pub visitor_found :
-      (who ≡ editor → ⊥) → (i : ℕ) → look_up_of query catalogue out ≡ Found i → served_from who query catalogue out ≡ body (record_at catalogue i) ++ (0 ∷ 0 ∷ [])
+      (who ≡ editor → ⊥) → (i : ℕ) → look_up_of query catalogue out ≡ Ok (Some i) → served_from who query catalogue out ≡ body (record_at catalogue i) ++ (0 ∷ 0 ∷ [])
   -- both the record found, whole, where it has 0 there
   pub unnumbered :
-      (i : ℕ) → look_up_of query catalogue out ≡ Found i → drop body_bytes (record_at catalogue i) ≡ 0 ∷ 0 ∷ [] → served_from who query catalogue out ≡ record_at catalogue i
+      (i : ℕ) → look_up_of query catalogue out ≡ Ok (Some i) → drop body_bytes (record_at catalogue i) ≡ 0 ∷ 0 ∷ [] → served_from who query catalogue out ≡ record_at catalogue i
   -- and the record made, with 0 there
-  pub made : look_up_of query catalogue out ≡ Made → served_from who query catalogue out ≡ record_of query
-  pub made_number : look_up_of query catalogue out ≡ Made → drop body_bytes (served_from who query catalogue out) ≡ 0 ∷ 0 ∷ []
+  pub made : look_up_of query catalogue out ≡ Ok None → served_from who query catalogue out ≡ record_of query
+  pub made_number : look_up_of query catalogue out ≡ Ok None → drop body_bytes (served_from who query catalogue out) ≡ 0 ∷ 0 ∷ []
   -- and after a refusal there is what was lent
-  pub refused : (r : Refusal) → look_up_of query catalogue out ≡ Refused r → served_from who query catalogue out ≡ out
+  pub refused : (r : Refusal) → look_up_of query catalogue out ≡ Err r → served_from who query catalogue out ≡ out
 
 pub record EveryServing : Type 0 where
   pub served : (who : ℕ) (query catalogue out : List ℕ) → ServedTo who query catalogue out
   -- so has a record that a making writes
-  pub made_number : (query out : List ℕ) → synthesize_of query out ≡ Done → drop body_bytes (filled (synthesize_of query out) (record_of query) out) ≡ 0 ∷ 0 ∷ []
+  pub made_number : (query out : List ℕ) → synthesize_of query out ≡ Ok tt → drop body_bytes (filled (synthesize_of query out) (record_of query) out) ≡ 0 ∷ 0 ∷ []

@@ -6,12 +6,11 @@ use mathlib.Core.List.{List, []}
 use Prim.Native.Nat.{ℕ}
 use lib.Dec.{eqb, ltb}
 use lib.ListN.{length}
+use Rattle.std.specs.Prelude.{Ok, Err}
 use Rattle.lists.specs.Choice.{pick}
 use Rattle.sequence.specs.declared.Refusal.TheVariants as R
-use Rattle.sequence.specs.declared.Outcome.{Outcome}
-use Rattle.sequence.specs.declared.Outcome.TheVariants.{Done, Refused}
 use Rattle.sequence.specs.Limits.{max_terms, query_bytes}
-use Rattle.sequence.specs.Answers.{granted, refused, outcome_answer, first_of}
+use Rattle.sequence.specs.Answers.{granted, refused, outcome_answer, first_of, Outcome}
 use Rattle.sequence.specs.Rules.{outside}
 use Rattle.lines.specs.Reading.{Found, broken, past, read, found_in}
 use Rattle.lines.specs.Reply.{reply_of, answer_of, read_of, read_answer}
@@ -22,7 +21,7 @@ found_told (broken i) = refl
 found_told (past i) = refl
 found_told (read m ts) = go (outside m) (ltb max_terms (length ts))
   where
-    go : (a b : Bool) → outcome_answer (pick a (Refused R.Modulus) (pick b (Refused R.Count) Done)) ≡ pick a (refused 1) (pick b (refused 2) (granted []))
+    go : (a b : Bool) → outcome_answer (pick a (Err R.Modulus) (pick b (Err R.Count) (Ok tt))) ≡ pick a (refused 1) (pick b (refused 2) (granted []))
     go true b = refl
     go false true = refl
     go false false = refl
@@ -34,7 +33,7 @@ read_told line query e x = record { value = e; query_after = x; result_value = a
   where
     go :
         (a : Bool)
-        → outcome_answer (pick a (reply_of (found_in line)) (Refused R.Buffer))
+        → outcome_answer (pick a (reply_of (found_in line)) (Err R.Buffer))
         ≡ pick (not a) (refused 5) (answer_of (found_in line))
     go true = found_told (found_in line)
     go false = refl

@@ -11,6 +11,7 @@ use lib.Signed.{mag}
 use mir.Syntax.{w32}
 use mir.Val.{SFits, to_z, of_z}
 use mir.Facts.{to_z-of_z}
+use Rattle.std.specs.Prelude.{Ok, Err}
 use Rattle.lists.specs.Table.{at}
 use Rattle.lists.proofs.Table.{length_tabulate, get_d_tabulate, tabulate_eq}
 use Rattle.lists.proofs.Search.{false_true}
@@ -19,7 +20,6 @@ use Rattle.cells.specs.Cell.{bytes_of}
 use Rattle.sequence.specs.Limits.{max_terms}
 use Rattle.sequence.specs.Rules.{query_of}
 use Rattle.sequence.proofs.Writing.{values}
-use Rattle.lines.specs.declared.Scanned.TheVariants as S
 use Rattle.lines.specs.Reading.{Found, broken, past, read}
 use Rattle.lines.specs.Scan.{scanned_of, first_terms}
 
@@ -39,7 +39,7 @@ pub record Terms (f : Found) (m n : ℕ) : Type 0 where
   pub is : f ≡ read m terms
   pub count : n ≡ length terms
 
-pub scanned_terms : (f : Found) (m n : ℕ) → scanned_of f ≡ S.Read m n → Terms f m n
+pub scanned_terms : (f : Found) (m n : ℕ) → scanned_of f ≡ Ok (m, n) → Terms f m n
 scanned_terms (broken i) m n e = let z : ◌≡◌ {A = Bool} false true = cc in false_true z
 scanned_terms (past i) m n e = let z : ◌≡◌ {A = Bool} false true = cc in false_true z
 scanned_terms (read k ts) m n e =
@@ -47,12 +47,12 @@ scanned_terms (read k ts) m n e =
     let count : length ts ≡ n = cc in
     record { terms = ts; is = ap (λ (x : ℕ). read x ts) same; count = sym count }
 
-pub scanned_broken : (f : Found) (i : ℕ) → scanned_of f ≡ S.Broken i → f ≡ broken i
+pub scanned_broken : (f : Found) (i : ℕ) → scanned_of f ≡ Err (R.LineForm i) → f ≡ broken i
 scanned_broken (broken k) i e = let same : k ≡ i = cc in ap broken same
 scanned_broken (past k) i e = let z : ◌≡◌ {A = Bool} false true = cc in false_true z
 scanned_broken (read k ts) i e = let z : ◌≡◌ {A = Bool} false true = cc in false_true z
 
-pub scanned_past : (f : Found) (i : ℕ) → scanned_of f ≡ S.Past i → f ≡ past i
+pub scanned_past : (f : Found) (i : ℕ) → scanned_of f ≡ Err (R.LineRange i) → f ≡ past i
 scanned_past (broken k) i e = let z : ◌≡◌ {A = Bool} false true = cc in false_true z
 scanned_past (past k) i e = let same : k ≡ i = cc in ap past same
 scanned_past (read k ts) i e = let z : ◌≡◌ {A = Bool} false true = cc in false_true z

@@ -1,28 +1,26 @@
 -- What reading a line replies, and the query that it writes.
 -- Assumes nothing.
-use Rattle.std.specs.Prelude.{not, List, [], ◌∷◌, map, ℕ, eqb, ltb, length}
+use Rattle.std.specs.Prelude.{not, List, [], ◌∷◌, map, ℕ, eqb, ltb, length, Ok, Err}
 use Rattle.lists.specs.Choice.{pick}
 use Rattle.residue.specs.Signed.{residue_of}
 use Rattle.sequence.specs.declared.Refusal.TheVariants as R
-use Rattle.sequence.specs.declared.Outcome.{Outcome}
-use Rattle.sequence.specs.declared.Outcome.TheVariants.{Done, Refused}
 use Rattle.sequence.specs.Limits.{max_terms, query_bytes}
-use Rattle.sequence.specs.Answers.{Answer, granted, refused, refused_at, first_of}
+use Rattle.sequence.specs.Answers.{Answer, granted, refused, refused_at, first_of, Outcome}
 use Rattle.sequence.specs.Rules.{outside, query_of}
 use Rattle.lines.specs.Reading.{Found, broken, past, read, found_in}
 
 -- a line that reads well still meets 1 and 2, in this order
 abbrev pub reply_to : ℕ → ℕ → Outcome
-reply_to m n = pick (outside m) (Refused R.Modulus) (pick (ltb max_terms n) (Refused R.Count) Done)
+reply_to m n = pick (outside m) (Err R.Modulus) (pick (ltb max_terms n) (Err R.Count) (Ok tt))
 
 abbrev pub reply_of : Found → Outcome
-reply_of (broken i) = Refused (R.LineForm i)
-reply_of (past i) = Refused (R.LineRange i)
+reply_of (broken i) = Err (R.LineForm i)
+reply_of (past i) = Err (R.LineRange i)
 reply_of (read m ts) = reply_to m (length ts)
 
 -- 5, then 27 or 28, then 1, 2
 unfoldable pub read_of : List ℕ → List ℕ → Outcome
-read_of line query = pick (eqb (length query) query_bytes) (reply_of (found_in line)) (Refused R.Buffer)
+read_of line query = pick (eqb (length query) query_bytes) (reply_of (found_in line)) (Err R.Buffer)
 
 -- the same by number
 abbrev pub answer_of : Found → Answer

@@ -1,20 +1,19 @@
 -- What the functions inside keep of a reading: the number of terms, and the first 128 of them.
 -- Assumes nothing.
-use Rattle.std.specs.Prelude.{◌≡◌, List, ℕ, ◌+◌, ℤ, pos, length, set, get_or}
+use Rattle.std.specs.Prelude.{◌≡◌, List, ℕ, ◌+◌, ℤ, pos, length, set, get_or, Ok, Err}
 use Rattle.lists.specs.Choice.{pick}
 use Rattle.lists.specs.Table.{tabulate}
 use Rattle.sequence.specs.Limits.{max_terms}
 use Rattle.lines.specs.declared.Cursor.{Cursor}
-use Rattle.lines.specs.declared.Scanned.{Scanned}
-use Rattle.lines.specs.declared.Scanned.TheVariants as S
 use Rattle.lines.specs.Form.{signed}
 use Rattle.lines.specs.Reading.{in_term, Found, broken, past, read}
+use Rattle.lines.specs.Reply.{Scanned}
 
 -- what is found, with the number of terms for the terms
 abbrev pub scanned_of : Found → Scanned
-scanned_of (broken i) = S.Broken i
-scanned_of (past i) = S.Past i
-scanned_of (read m ts) = S.Read m (length ts)
+scanned_of (broken i) = Err (R.LineForm i)
+scanned_of (past i) = Err (R.LineRange i)
+scanned_of (read m ts) = Ok (m, length ts)
 
 -- the first 128 terms, zero past the last
 abbrev pub first_terms : List ℤ → List ℤ

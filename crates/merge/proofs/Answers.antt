@@ -6,16 +6,15 @@ use mathlib.Core.List.{List, [], ◌∷◌, ◌++◌}
 use Prim.Native.Nat.{ℕ}
 use lib.Dec.{eqb, ltb}
 use lib.ListN.{length}
+use Rattle.std.specs.Prelude.{Ok, Err}
 use Rattle.lists.specs.Choice.{pick}
 use Rattle.sequence.specs.declared.Sequence.{Sequence}
 use Rattle.sequence.specs.declared.Refusal.TheVariants as R
-use Rattle.sequence.specs.declared.Outcome.{Outcome}
-use Rattle.sequence.specs.declared.Outcome.TheVariants.{Done, Refused}
 use Rattle.sequence.specs.Limits.{max_modulus, query_bytes}
-use Rattle.sequence.specs.Answers.{Answer, granted, refused, refused_at, outcome_answer, first_of}
+use Rattle.sequence.specs.Answers.{Answer, granted, refused, refused_at, outcome_answer, first_of, Outcome, and_then}
 use Rattle.sequence.specs.Rules.{sequence_of, check_of, query_refusals}
 use Rattle.sequence.proofs.Answers.{or_refused, query_told}
-use Rattle.merge.specs.Rules.{divisor_of, multiple_of, first_apart, compared_by, compared_of, and_then, merge_of, merge_answer}
+use Rattle.merge.specs.Rules.{divisor_of, multiple_of, first_apart, compared_by, compared_of, merge_of, merge_answer}
 
 -- the whole promise of the call, as `push_told` (sequence) gives that of a push
 pub merge_told : (x y query : List ℕ) {r : Outcome} {A : Type 0} → r ≡ merge_of x y query → A → record { value : r ≡ merge_of x y query; query_after : A; result_value : outcome_answer r ≡ merge_answer x y query }
@@ -43,8 +42,8 @@ merge_told x y query e z =
 
     -- a refusal of a query's own, or what is answered after it
     after : (o p : Outcome) (v : Answer) → outcome_answer p ≡ v → outcome_answer (and_then o p) ≡ or_refused o v
-    after Done p v h = h
-    after (Refused r) p v h = refl
+    after (Ok tt) p v h = h
+    after (Err r) p v h = refl
 
     both : outcome_answer (and_then (check_of x) (and_then (check_of y) (compared_of s t))) ≡ first_of (query_refusals x ++ (query_refusals y ++ rest)) (granted [])
     both =
@@ -55,7 +54,7 @@ merge_told x y query e z =
 
     go :
         (a b d : Bool)
-        → outcome_answer (pick a (pick b (pick d (and_then (check_of x) (and_then (check_of y) (compared_of s t))) (Refused R.Buffer)) (Refused R.Buffer)) (Refused R.Buffer))
+        → outcome_answer (pick a (pick b (pick d (and_then (check_of x) (and_then (check_of y) (compared_of s t))) (Err R.Buffer)) (Err R.Buffer)) (Err R.Buffer))
         ≡ pick (not a) (refused 5) (pick (not b) (refused 5) (pick (not d) (refused 5) (first_of (query_refusals x ++ (query_refusals y ++ rest)) (granted []))))
     go false b d = refl
     go true false d = refl

@@ -8,6 +8,7 @@ use native.Mathlib.Nat.{div-le_self, mul-le-mul_right}
 use native.Mathlib.Omega.{arith}
 use lib.Dec.{eqb, ltb}
 use borrow.Author.Tests.{not-false, eqb-true, ltb-true, ltb-false, lt-ltb, le-ltb, eq-eqb, ne_eqb}
+use Rattle.std.specs.Prelude.{Ok, Err}
 use Rattle.lists.specs.Choice.{pick}
 use Rattle.lists.specs.Table.{at, tabulate}
 use Rattle.lists.proofs.Search.{false_true, first_passes, first_before, first_none, is_first}
@@ -19,15 +20,14 @@ use Rattle.cells.specs.Cell.{bytes_of}
 use Rattle.sequence.specs.declared.Sequence.{Sequence}
 use Rattle.sequence.specs.declared.Refusal.{Refusal}
 use Rattle.sequence.specs.declared.Refusal.TheVariants as R
-use Rattle.sequence.specs.declared.Outcome.{Outcome}
-use Rattle.sequence.specs.declared.Outcome.TheVariants.{Done, Refused}
 use Rattle.sequence.specs.declared.Checked.{Checked}
 use Rattle.sequence.specs.Limits.{max_modulus, max_terms}
 use Rattle.sequence.specs.Report.{filled}
 use Rattle.sequence.specs.Rules.{IsSound, query_of, sequence_of, check_of, checked_of}
 use Rattle.sequence.proofs.Laws.{refused_done, checked, accepted}
 use Rattle.sequence.proofs.Writing.{values}
-use Rattle.merge.specs.Rules.{divisor_of, multiple_of, merged_query, first_apart, compared_by, compared_of, and_then, past_buffers, merged_in}
+use Rattle.merge.specs.Rules.{divisor_of, multiple_of, merged_query, first_apart, compared_by, compared_of, past_buffers, merged_in}
+use Rattle.sequence.specs.Answers.{Outcome, and_then}
 
 -- ---- the cases
 
@@ -50,10 +50,10 @@ pub record ApartAt (s t : Sequence) (i : ℕ) : Type 0 where
   pub before : (j : ℕ) → j < i → AgreeAt s t j
 
 pub data Comparison (s t : Sequence) (o : Outcome) : Type 0 where
-  counts : (s.count ≡ t.count → ⊥) → o ≡ Refused R.CountsDiffer → Comparison s t o
-  multiple : s.count ≡ t.count → max_modulus < multiple_of s t → o ≡ Refused R.MultipleAbove → Comparison s t o
-  terms : (i : ℕ) → ApartAt s t i → o ≡ Refused (R.TermsDisagree i) → Comparison s t o
-  merges : Mergeable s t → o ≡ Done → Comparison s t o
+  counts : (s.count ≡ t.count → ⊥) → o ≡ Err R.CountsDiffer → Comparison s t o
+  multiple : s.count ≡ t.count → max_modulus < multiple_of s t → o ≡ Err R.MultipleAbove → Comparison s t o
+  terms : (i : ℕ) → ApartAt s t i → o ≡ Err (R.TermsDisagree i) → Comparison s t o
+  merges : Mergeable s t → o ≡ Ok tt → Comparison s t o
 
 module _ (s t : Sequence) where
   abbrev test : ℕ → Bool
@@ -95,15 +95,15 @@ module _ (s t : Sequence) where
           }) refl
 
   -- and each case gives its reply
-  pub counts_told : (s.count ≡ t.count → ⊥) → compared_of s t ≡ Refused R.CountsDiffer
+  pub counts_told : (s.count ≡ t.count → ⊥) → compared_of s t ≡ Err R.CountsDiffer
   unfolding compared_of
   counts_told h = rw (ne_eqb s.count t.count h) refl
 
-  pub multiple_told : s.count ≡ t.count → max_modulus < multiple_of s t → compared_of s t ≡ Refused R.MultipleAbove
+  pub multiple_told : s.count ≡ t.count → max_modulus < multiple_of s t → compared_of s t ≡ Err R.MultipleAbove
   unfolding compared_of
   multiple_told e h = rw (eq-eqb s.count t.count e, lt-ltb max_modulus (multiple_of s t) h) refl
 
-  pub terms_told : (i : ℕ) → ApartAt s t i → compared_of s t ≡ Refused (R.TermsDisagree i)
+  pub terms_told : (i : ℕ) → ApartAt s t i → compared_of s t ≡ Err (R.TermsDisagree i)
   unfolding compared_of
   terms_told i x =
       rw (eq-eqb s.count t.count x.counts, le-ltb max_modulus (multiple_of s t) x.within, ← found, lt-ltb i s.count x.here) refl
@@ -115,7 +115,7 @@ module _ (s t : Sequence) where
       found : i ≡ place
       found = is_first s.count test i (omega (arith, x.here)) (λ j h. agree_test j (x.before j h)) (λ h. passes (test i) refl)
 
-  pub merges_told : Mergeable s t → compared_of s t ≡ Done
+  pub merges_told : Mergeable s t → compared_of s t ≡ Ok tt
   unfolding compared_of
   merges_told x =
       rw (eq-eqb s.count t.count x.counts, le-ltb max_modulus (multiple_of s t) x.within, ← none, le-ltb s.count s.count (omega arith)) refl
@@ -123,7 +123,7 @@ module _ (s t : Sequence) where
       none : s.count ≡ place
       none = is_first s.count test s.count (omega arith) (λ j h. agree_test j (x.agree j h)) (λ h. absurd (omega arith))
 
-  pub mergeable : compared_of s t ≡ Done → Mergeable s t
+  pub mergeable : compared_of s t ≡ Ok tt → Mergeable s t
   mergeable e = go comparing
     where
       go : Comparison s t (compared_of s t) → Mergeable s t
@@ -226,15 +226,15 @@ written_query m n f e = e ∙ ap (λ (k : ℕ). bytes_of (m ∷ k ∷ tabulate m
 
 -- ---- the checks of the two queries
 
-pub first_refused : (x y : List ℕ) {r : Refusal} → check_of x ≡ Refused r → Refused r ≡ past_buffers x y
+pub first_refused : (x y : List ℕ) {r : Refusal} → check_of x ≡ Err r → Err r ≡ past_buffers x y
 first_refused x y e = sym (ap (λ (o : Outcome). and_then o (and_then (check_of y) (compared_of (sequence_of x) (sequence_of y)))) e)
 
-pub second_refused : (x y : List ℕ) {r : Refusal} → check_of x ≡ Done → check_of y ≡ Refused r → Refused r ≡ past_buffers x y
+pub second_refused : (x y : List ℕ) {r : Refusal} → check_of x ≡ Ok tt → check_of y ≡ Err r → Err r ≡ past_buffers x y
 second_refused x y d e = sym (ap₂ (λ (o p : Outcome). and_then o (and_then p (compared_of (sequence_of x) (sequence_of y)))) d e)
 
 -- where neither is refused, what the merger of the two sequences replies and leaves
 pub both_passed :
-    (x y old : List ℕ) {c d : Checked} → c ≡ checked_of x → c.outcome ≡ Done → d ≡ checked_of y → d.outcome ≡ Done → {r : Outcome} {new : List ℕ}
+    (x y old : List ℕ) {c d : Checked} → c ≡ checked_of x → c.outcome ≡ Ok tt → d ≡ checked_of y → d.outcome ≡ Ok tt → {r : Outcome} {new : List ℕ}
     → r ≡ compared_of c.sequence d.sequence → new ≡ filled r (merged_query c.sequence d.sequence) old
     → record { value : r ≡ past_buffers x y; query_after : new ≡ merged_in r x y old }
 both_passed x y old ec hc ed hd {r} told written =

@@ -7,6 +7,7 @@ use Prim.Native.Nat.{ℕ, ◌+◌, ◌%◌, ◌≤◌, ◌<◌, max}
 use native.Mathlib.Nat.{mod-eq_of_lt}
 use native.Mathlib.Omega.{arith}
 use lib.ListN.{length}
+use Rattle.std.specs.Prelude.{Ok}
 use Rattle.lists.specs.Table.{at, tabulate}
 use Rattle.lists.proofs.Table.{length_tabulate, at_tabulate}
 use Rattle.recurrence.specs.Register.{complexity}
@@ -14,7 +15,6 @@ use Rattle.recurrence.proofs.Merged.{complexity_merged}
 use Rattle.residue.proofs.Common.{multiple_above, leaves_agree, joined_both, joined_only}
 use Rattle.cells.specs.Cell.{cell_at}
 use Rattle.sequence.specs.declared.Sequence.{Sequence}
-use Rattle.sequence.specs.declared.Outcome.TheVariants.{Done}
 use Rattle.sequence.specs.Limits.{max_terms}
 use Rattle.sequence.specs.Rules.{IsSound, sequence_of, check_of}
 use Rattle.sequence.proofs.Laws.{term_cell}
@@ -81,7 +81,7 @@ module _ (s t : Sequence) (S : IsSound s) (T : IsSound t) where
     unfolding merged_query ts
     merged_term_lem i h = query_term (multiple_of s t) ts big x.within few small i (omega (arith, S.count)) ∙ at_tabulate s.count (merged_term s t) i h
 
-    pub merged_passes : check_of (merged_query s t) ≡ Done
+    pub merged_passes : check_of (merged_query s t) ≡ Ok tt
     unfolding merged_query ts
     merged_passes = query_passes (multiple_of s t) ts big x.within few small
 

@@ -1,6 +1,6 @@
 -- Two queries of the same sequence modulo two moduli, merged to one modulo the least common multiple: the reply, and the query.
 -- Assumes nothing.
-use Rattle.std.specs.Prelude.{Bool, not, List, [], ◌∷◌, ◌++◌, ℕ, ◌%◌, eqb, ltb, length}
+use Rattle.std.specs.Prelude.{Bool, not, List, [], ◌∷◌, ◌++◌, ℕ, ◌%◌, eqb, ltb, length, Ok, Err}
 use Rattle.lists.specs.Choice.{pick}
 use Rattle.lists.specs.Table.{at, tabulate}
 use Rattle.lists.specs.Search.{first}
@@ -8,10 +8,8 @@ use Rattle.residue.specs.Common.{common_divisor, common_multiple}
 use Rattle.residue.specs.Remainders.{joined, two}
 use Rattle.sequence.specs.declared.Sequence.{Sequence}
 use Rattle.sequence.specs.declared.Refusal.TheVariants as R
-use Rattle.sequence.specs.declared.Outcome.{Outcome}
-use Rattle.sequence.specs.declared.Outcome.TheVariants.{Done, Refused}
 use Rattle.sequence.specs.Limits.{max_modulus, query_bytes}
-use Rattle.sequence.specs.Answers.{Answer, granted, refused, refused_at, first_of}
+use Rattle.sequence.specs.Answers.{Answer, granted, refused, refused_at, first_of, Outcome, and_then}
 use Rattle.sequence.specs.Report.{filled}
 use Rattle.sequence.specs.Rules.{query_of, sequence_of, check_of, query_refusals}
 
@@ -40,7 +38,7 @@ first_apart g xs ys n = first n (λ i. not (eqb (at xs i % g) (at ys i % g)))
 -- 29, 30, 31 with its place, in this order
 abbrev pub compared_by : Bool → Bool → Bool → ℕ → Outcome
 compared_by differ above apart i =
-    pick differ (Refused R.CountsDiffer) (pick above (Refused R.MultipleAbove) (pick apart (Refused (R.TermsDisagree i)) Done))
+    pick differ (Err R.CountsDiffer) (pick above (Err R.MultipleAbove) (pick apart (Err (R.TermsDisagree i)) (Ok tt)))
 
 -- of two sequences that meet no refusal of their own
 unfoldable pub compared_of : Sequence → Sequence → Outcome
@@ -50,8 +48,8 @@ compared_of s t =
 
 -- the refusal of a query, or what comes after it
 abbrev pub and_then : Outcome → Outcome → Outcome
-and_then Done o = o
-and_then (Refused r) o = Refused r
+and_then (Ok tt) o = o
+and_then (Err r) o = Err r
 
 -- the first query's own refusals, the second's, then 29, 30, 31
 abbrev pub past_buffers : List ℕ → List ℕ → Outcome
@@ -61,8 +59,8 @@ past_buffers x y = and_then (check_of x) (and_then (check_of y) (compared_of (se
 unfoldable pub merge_of : List ℕ → List ℕ → List ℕ → Outcome
 merge_of x y query =
     pick (eqb (length x) query_bytes)
-    (pick (eqb (length y) query_bytes) (pick (eqb (length query) query_bytes) (past_buffers x y) (Refused R.Buffer)) (Refused R.Buffer))
-    (Refused R.Buffer)
+    (pick (eqb (length y) query_bytes) (pick (eqb (length query) query_bytes) (past_buffers x y) (Err R.Buffer)) (Err R.Buffer))
+    (Err R.Buffer)
 
 -- the same by number
 unfoldable pub merge_answer : List ℕ → List ℕ → List ℕ → Answer

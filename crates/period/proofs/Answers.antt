@@ -6,14 +6,13 @@ use mathlib.Core.List.{List, [], ◌∷◌}
 use Prim.Native.Nat.{ℕ, zero, ◌/◌, ◌%◌}
 use lib.Dec.{eqb, ltb}
 use lib.ListN.{length}
+use Rattle.std.specs.Prelude.{Ok, Err}
 use Rattle.lists.specs.Choice.{pick}
 use Rattle.sequence.specs.declared.Refusal.TheVariants as R
 use Rattle.sequence.specs.Answers.{granted, refused, refused_at, first_of}
 use Rattle.sequence.specs.Rules.{first_large}
-use Rattle.period.specs.declared.Measured.{Measured}
-use Rattle.period.specs.declared.Measured.TheVariants.{Length, Refused}
 use Rattle.period.specs.Halving.{halving}
-use Rattle.period.specs.Rules.{periods, exponent, digits_in, measured_answer, period_length_of, period_length_answer}
+use Rattle.period.specs.Rules.{periods, exponent, digits_in, measured_answer, period_length_of, period_length_answer, Measured}
 
 -- the whole promise of the call
 pub period_told : (cells : List ℕ) {r : Measured} → r ≡ period_length_of cells → record { value : r ≡ period_length_of cells; result_value : measured_answer r ≡ period_length_answer cells }
@@ -32,7 +31,7 @@ period_told cells e =
 
     go :
         (a b c : Bool)
-        → measured_answer (pick a (pick b (pick c (Refused (R.Term i)) (Length l)) (Refused R.Period)) (Refused R.Buffer))
+        → measured_answer (pick a (pick b (pick c (Err (R.Term i)) (Ok l)) (Err R.Period)) (Err R.Buffer))
         ≡ pick (not a) (refused 5) (pick (not b) (refused 32) (pick c (refused_at 3 i) (granted (l ∷ []))))
     go false b c = refl
     go true false c = refl

@@ -9,6 +9,7 @@ use native.Mathlib.Omega.{arith}
 use lib.Dec.{eqb, leb}
 use lib.ListN.{length}
 use borrow.Author.Tests.{eqb-true, leb-true, leb-false, lt-leb, le-leb, lt-ltb, le-ltb, eq-eqb, ne_eqb}
+use Rattle.std.specs.Prelude.{Ok, Err}
 use Rattle.lists.specs.Table.{at}
 use Rattle.lists.specs.Search.{first}
 use Rattle.lists.proofs.Table.{length_tabulate}
@@ -19,7 +20,6 @@ use Rattle.residue.proofs.Congruence.{pow_lt}
 use Rattle.recurrence.specs.Least.{Least}
 use Rattle.sequence.specs.declared.Refusal.TheVariants as R
 use Rattle.sequence.specs.Rules.{first_large}
-use Rattle.period.specs.declared.Measured.TheVariants.{Length, Refused}
 use Rattle.period.specs.Halving.{halving, Binary}
 use Rattle.period.specs.Rules.{periods, max_period, exponent, digits_in, period_length_of}
 use Rattle.period.proofs.Halving.{halving_same, halving_le}
@@ -85,12 +85,12 @@ module _ (cells : List ℕ) where
   abbrev n : ℕ
   n = length cells / 2
 
-  pub reply_odd : length cells % 2 ≢ zero → Refused R.Buffer ≡ period_length_of cells
+  pub reply_odd : length cells % 2 ≢ zero → Err R.Buffer ≡ period_length_of cells
   unfolding period_length_of
   reply_odd h = rw (ne_eqb (length cells % 2) zero h)
 
   module _ (even : length cells % 2 ≡ zero) (w : ℕ) (told : w ≡ exponent n) where
-    pub reply_period : periods ≤ w → Refused R.Period ≡ period_length_of cells
+    pub reply_period : periods ≤ w → Err R.Period ≡ period_length_of cells
     unfolding period_length_of
     reply_period h = rw (eq-eqb (length cells % 2) zero even, le-ltb (exponent n) periods (omega arith))
 
@@ -101,17 +101,17 @@ module _ (cells : List ℕ) where
         (p, omega (arith, p, power_small w h))
 
     module _ (fits : w < periods) (i : ℕ) (seen : i ≡ first_large 2 (digits_in cells) n) where
-      pub reply_digit : i < n → Refused (R.Term i) ≡ period_length_of cells
+      pub reply_digit : i < n → Err (R.Term i) ≡ period_length_of cells
       unfolding period_length_of
       reply_digit h =
           rw (eq-eqb (length cells % 2) zero even, lt-ltb (exponent n) periods (omega arith), lt-ltb (first_large 2 (digits_in cells) n) n (omega arith))
-          (ap (λ (k : ℕ). Refused (R.Term k)) seen)
+          (ap (λ (k : ℕ). Err (R.Term k)) seen)
 
-      pub reply_length : n ≤ i → (digits : List ℕ) → ((j : ℕ) → j < i → at digits j ≡ cell_at cells j) → (l : ℕ) → l ≡ halving w digits → Length l ≡ period_length_of cells
+      pub reply_length : n ≤ i → (digits : List ℕ) → ((j : ℕ) → j < i → at digits j ≡ cell_at cells j) → (l : ℕ) → l ≡ halving w digits → Ok l ≡ period_length_of cells
       unfolding period_length_of
       reply_length h digits same l e =
           rw (eq-eqb (length cells % 2) zero even, lt-ltb (exponent n) periods (omega arith), le-ltb (first_large 2 (digits_in cells) n) n (omega arith))
-          (ap Length
+          (ap Ok
           (e
           ∙ halving_same w digits (digits_in cells)
           (λ j k. let b : j < n = omega (arith, (period_power fits).0) in same j (omega arith) ∙ sym (at_cells cells n j b))
@@ -141,11 +141,11 @@ module _ {cells : List ℕ} {w : ℕ} (p : Sized cells w) where
   pub period_small : 2 ^ w ≤ max_period
   period_small = power_small w p.below
 
-  pub large_told : (i : ℕ) → i < 2 ^ w → 2 ≤ cell_at cells i → BelowTwo cells i → period_length_of cells ≡ Refused (R.Term i)
+  pub large_told : (i : ℕ) → i < 2 ^ w → 2 ≤ cell_at cells i → BelowTwo cells i → period_length_of cells ≡ Err (R.Term i)
   large_told i h large before =
       sym (reply_digit cells even w told p.below i (is_large cells (length cells / 2) i (omega (arith, half)) large before) (omega (arith, half)))
 
-  pub length_told_lem : BelowTwo cells (2 ^ w) → period_length_of cells ≡ Length (halving w (cells_from cells 0 (2 ^ w)))
+  pub length_told_lem : BelowTwo cells (2 ^ w) → period_length_of cells ≡ Ok (halving w (cells_from cells 0 (2 ^ w)))
   length_told_lem small =
       sym (reply_length cells even w told p.below (length cells / 2)
       (sym (none_digits cells (length cells / 2) (λ j l. small j (omega (arith, half))))) (omega arith) (cells_from cells 0 (2 ^ w))

@@ -1,14 +1,12 @@
 -- What is replied to one period of a binary sequence that is lent as cells.
 -- Assumes nothing.
-use Rattle.std.specs.Prelude.{not, List, [], ◌∷◌, ℕ, zero, ◌/◌, ◌%◌, ◌^◌, eqb, ltb, length}
+use Rattle.std.specs.Prelude.{not, List, [], ◌∷◌, ℕ, zero, ◌/◌, ◌%◌, ◌^◌, eqb, ltb, length, Ok, Err}
 use Rattle.lists.specs.Choice.{pick}
 use Rattle.lists.specs.Search.{first}
 use Rattle.cells.specs.Cell.{cells_from}
 use Rattle.sequence.specs.declared.Refusal.TheVariants as R
 use Rattle.sequence.specs.Answers.{Answer, granted, refused, refused_at, refusal, first_of}
 use Rattle.sequence.specs.Rules.{first_large}
-use Rattle.period.specs.declared.Measured.{Measured}
-use Rattle.period.specs.declared.Measured.TheVariants.{Length, Refused}
 use Rattle.period.specs.Halving.{halving}
 
 -- the periods are 1, 2, 4, .., 64: 2^w for w below 7
@@ -29,18 +27,18 @@ digits_in cells = cells_from cells 0 (length cells / 2)
 -- of a period of n digits: 3 with the first place of a digit above 1, else the length
 abbrev pub measured : List ℕ → ℕ → Measured
 measured digits n =
-    pick (ltb (first_large 2 digits n) n) (Refused (R.Term (first_large 2 digits n))) (Length (halving (exponent n) digits))
+    pick (ltb (first_large 2 digits n) n) (Err (R.Term (first_large 2 digits n))) (Ok (halving (exponent n) digits))
 
 -- 5 for an odd number of bytes and 32 where the period is none of the seven come before it
 unfoldable pub period_length_of : List ℕ → Measured
 period_length_of cells =
     let n = length cells / 2 in
-    pick (eqb (length cells % 2) zero) (pick (ltb (exponent n) periods) (measured (digits_in cells) n) (Refused R.Period)) (Refused R.Buffer)
+    pick (eqb (length cells % 2) zero) (pick (ltb (exponent n) periods) (measured (digits_in cells) n) (Err R.Period)) (Err R.Buffer)
 
 -- the same by number
 abbrev pub measured_answer : Measured → Answer
-measured_answer (Length l) = granted (l ∷ [])
-measured_answer (Refused r) = refusal r
+measured_answer (Ok l) = granted (l ∷ [])
+measured_answer (Err r) = refusal r
 
 unfoldable pub period_length_answer : List ℕ → Answer
 period_length_answer cells =

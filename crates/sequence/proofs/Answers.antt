@@ -6,17 +6,14 @@ use mathlib.Core.List.{List, [], ◌++◌}
 use Prim.Native.Nat.{ℕ}
 use lib.Dec.{ltb, leb, eqb}
 use lib.ListN.{length}
+use Rattle.std.specs.Prelude.{Ok, Err}
 use Rattle.lists.specs.Choice.{pick}
 use Rattle.sequence.specs.declared.Sequence.{Sequence}
 use Rattle.sequence.specs.declared.Refusal.TheVariants as R
-use Rattle.sequence.specs.declared.Outcome.{Outcome}
-use Rattle.sequence.specs.declared.Outcome.TheVariants.{Done, Refused}
-use Rattle.sequence.specs.declared.Reported.{Reported}
-use Rattle.sequence.specs.declared.Reported.TheVariants as P
 use Rattle.sequence.specs.declared.Opened.{Opened}
 use Rattle.sequence.specs.declared.Pushed.{Pushed}
 use Rattle.sequence.specs.Limits.{max_terms, query_bytes, a_bytes, b_bytes, profile_bytes}
-use Rattle.sequence.specs.Answers.{Answer, granted, refused, refused_at, refusal, outcome_answer, reported_answer, first_of}
+use Rattle.sequence.specs.Answers.{Answer, granted, refused, refused_at, refusal, outcome_answer, reported_answer, first_of, Outcome, Reported}
 use Rattle.sequence.specs.Rules.{outside, first_large, zero_from, fault_of, is_sound, fresh, open_of, open_answer, longer, push_of, push_answer, sequence_of, check_of, query_refusals}
 use Rattle.sequence.specs.Report.{register_told, register_answer, report_of, report_answer, profile_of, profile_answer}
 
@@ -29,10 +26,10 @@ unfolding open_of first_of
 open_told m e = record { value = e; outcome_value = ap (λ (x : Opened). outcome_answer x.outcome) e ∙ go (outside m) }
   where
     bad : Opened
-    bad = record { sequence = fresh 0; outcome = Refused R.Modulus }
+    bad = record { sequence = fresh 0; outcome = Err R.Modulus }
 
     good : Opened
-    good = record { sequence = fresh m; outcome = Done }
+    good = record { sequence = fresh m; outcome = Ok tt }
 
     go : (t : Bool) → outcome_answer (pick t bad good).outcome ≡ pick t (refused 1) (granted [])
     go true = refl
@@ -47,7 +44,7 @@ push_told s t e = record { value = e; outcome_value = ap (λ (x : Pushed). outco
 
     go :
         (a b d : Bool)
-        → outcome_answer (pick a (pick b (with s (Refused R.Full)) (pick d (with s (Refused (R.Term s.count))) (with (longer s t) Done))) (with s (Refused R.Sequence))).outcome
+        → outcome_answer (pick a (pick b (with s (Err R.Full)) (pick d (with s (Err (R.Term s.count))) (with (longer s t) (Ok tt)))) (with s (Err R.Sequence))).outcome
         ≡ pick (not a) (refused 21) (pick b (refused 22) (pick d (refused_at 3 s.count) (granted [])))
     go false b d = refl
     go true true d = refl
@@ -60,7 +57,7 @@ report_told s a b e x y = record { value = e; a_after = x; b_after = y; result_v
   where
     go :
         (x y z : Bool)
-        → reported_answer (pick x (pick y (pick z (register_told s) (P.Refused R.Sequence)) (P.Refused R.Buffer)) (P.Refused R.Buffer))
+        → reported_answer (pick x (pick y (pick z (register_told s) (Err R.Sequence)) (Err R.Buffer)) (Err R.Buffer))
         ≡ pick (not x) (refused 5) (pick (not y) (refused 5) (pick (not z) (refused 21) (register_answer s)))
     go false y z = refl
     go true false z = refl
@@ -73,7 +70,7 @@ profile_told s cells e x = record { value = e; cells_after = x; result_value = a
   where
     go :
         (x z : Bool)
-        → outcome_answer (pick x (pick z Done (Refused R.Sequence)) (Refused R.Buffer))
+        → outcome_answer (pick x (pick z (Ok tt) (Err R.Sequence)) (Err R.Buffer))
         ≡ pick (not x) (refused 5) (pick (not z) (refused 21) (granted []))
     go false z = refl
     go true false = refl
@@ -83,8 +80,8 @@ profile_told s cells e x = record { value = e; cells_after = x; result_value = a
 
 -- the answer where the query is not refused
 abbrev pub or_refused : Outcome → Answer → Answer
-or_refused Done x = x
-or_refused (Refused r) x = refusal r
+or_refused (Ok tt) x = x
+or_refused (Err r) x = refusal r
 
 -- the query's refusals come first, then those behind them
 pub query_told : (query : List ℕ) (rest : List (Bool × Answer)) (x : Answer) → or_refused (check_of query) (first_of rest x) ≡ first_of (query_refusals query ++ rest) x
@@ -100,7 +97,7 @@ query_told query rest x =
 
     go :
         (a b d f z : Bool)
-        → or_refused (pick a (pick b (Refused R.Modulus) (pick d (Refused R.Count) (pick f (Refused (R.Term i)) (pick z Done (Refused R.Padding))))) (Refused R.Buffer)) (first_of rest x)
+        → or_refused (pick a (pick b (Err R.Modulus) (pick d (Err R.Count) (pick f (Err (R.Term i)) (pick z (Ok tt) (Err R.Padding))))) (Err R.Buffer)) (first_of rest x)
         ≡ pick (not a) (refused 5) (pick b (refused 1) (pick d (refused 2) (pick f (refused_at 3 i) (pick (not z) (refused 4) (first_of rest x)))))
     go false b d f z = refl
     go true true d f z = refl

@@ -13,6 +13,7 @@ use lib.Seq.{get_or-set_same, get_or-set_other}
 use lib.Arith.{lt_of_le-ne}
 use borrow.Author.Count.{below_more}
 use borrow.Author.Tests.{ltb-true, ltb-false, leb-true, leb-false, eqb-true, lt-ltb, le-ltb, lt-leb, le-leb, eq-eqb, ne_eqb}
+use Rattle.std.specs.Prelude.{Result, Ok, Err}
 use Rattle.lists.specs.Choice.{pick}
 use Rattle.lists.specs.Table.{at}
 use Rattle.lists.proofs.Table.{at_tabulate, at_past}
@@ -21,12 +22,9 @@ use Rattle.cells.specs.Cell.{cell_at}
 use Rattle.sequence.specs.declared.Sequence.{Sequence}
 use Rattle.sequence.specs.declared.Refusal.{Refusal}
 use Rattle.sequence.specs.declared.Refusal.TheVariants as R
-use Rattle.sequence.specs.declared.Outcome.{Outcome}
-use Rattle.sequence.specs.declared.Outcome.TheVariants.{Done, Refused}
 use Rattle.sequence.specs.declared.Pushed.{Pushed}
-use Rattle.sequence.specs.declared.Checked.{Checked}
 use Rattle.sequence.specs.Limits.{max_modulus, max_terms, query_bytes}
-use Rattle.sequence.specs.Answers.{refusal, outcome_answer}
+use Rattle.sequence.specs.Answers.{refusal, outcome_answer, Outcome, and_then}
 use Rattle.sequence.specs.Rules.{outside, first_large, zero_from, fault_of, is_sound, IsSound, fresh, open_of, longer, push_of, sequence_of, check_of, checked_of}
 
 -- sequences are equal by their fields
@@ -34,7 +32,7 @@ pub same : {m m' n n' : ℕ} {t t' : List ℕ} → m ≡ m' → n ≡ n' → t �
 same p q r = λ i. record { modulus = p i; count = q i; terms = r i }
 
 -- what is refused is not done
-pub refused_done : {A : Type 0} {r : Refusal} → Refused r ≡ Done → A
+pub refused_done : {A : Type 0} {r : Refusal} → ◌≡◌ {A = Outcome} (Err r) (Ok tt) → A
 refused_done h = false_true (ap is_sound h)
 
 -- ---- zeros
@@ -64,11 +62,11 @@ pub record TermAt (s : Sequence) (i : ℕ) : Type 0 where
 
 -- each thing that may be wrong with a sequence, with what it says where more than the refusal is wanted; or nothing
 pub data Fault (s : Sequence) (o : Outcome) : Type 0 where
-  modulus : o ≡ Refused R.Modulus → Fault s o
-  count : o ≡ Refused R.Count → Fault s o
-  term : (i : ℕ) → TermAt s i → o ≡ Refused (R.Term i) → Fault s o
-  padding : o ≡ Refused R.Padding → Fault s o
-  sound : IsSound s → o ≡ Done → Fault s o
+  modulus : o ≡ Err R.Modulus → Fault s o
+  count : o ≡ Err R.Count → Fault s o
+  term : (i : ℕ) → TermAt s i → o ≡ Err (R.Term i) → Fault s o
+  padding : o ≡ Err R.Padding → Fault s o
+  sound : IsSound s → o ≡ Ok tt → Fault s o
 
 pub fault : (s : Sequence) → Fault s (fault_of s)
 unfolding fault_of
@@ -85,7 +83,7 @@ fault s = go (ltb m 2) (ltb max_modulus m) (ltb max_terms n) (ltb i n) (zero_fro
 
     go :
         (a b d e z : Bool) → ltb m 2 ≡ a → ltb max_modulus m ≡ b → ltb max_terms n ≡ d → ltb i n ≡ e → zero_from n max_terms s.terms ≡ z
-        → Fault s (pick (pick a true b) (Refused R.Modulus) (pick d (Refused R.Count) (pick e (Refused (R.Term i)) (pick z Done (Refused R.Padding)))))
+        → Fault s (pick (pick a true b) (Err R.Modulus) (pick d (Err R.Count) (pick e (Err (R.Term i)) (pick z (Ok tt) (Err R.Padding)))))
     go true b d e z a' b' d' e' z' = modulus refl
     go false true d e z a' b' d' e' z' = modulus refl
     go false false true e z a' b' d' e' z' = count refl
@@ -116,7 +114,7 @@ fault s = go (ltb m 2) (ltb max_modulus m) (ltb max_terms n) (ltb i n) (zero_fro
 pub sound_of : (s : Sequence) → is_sound (fault_of s) ≡ true → IsSound s
 sound_of s h = go (fault s)
   where
-    refused : {r : Refusal} → fault_of s ≡ Refused r → IsSound s
+    refused : {r : Refusal} → fault_of s ≡ Err r → IsSound s
     refused e = false_true (sym (ap is_sound e) ∙ h)
 
     go : Fault s (fault_of s) → IsSound s
@@ -127,7 +125,7 @@ sound_of s h = go (fault s)
     go (sound k e) = k
 
 -- and of a sound one nothing is found
-pub of_sound : (s : Sequence) → IsSound s → fault_of s ≡ Done
+pub of_sound : (s : Sequence) → IsSound s → fault_of s ≡ Ok tt
 unfolding fault_of
 of_sound s h =
     let none : ltb (first_large s.modulus s.terms s.count) s.count ≡ false =
@@ -135,7 +133,7 @@ of_sound s h =
     rw (le-ltb _ _ h.least, le-ltb _ _ h.most, le-ltb _ _ h.count, none, zero_from_lem s.count max_terms s.terms h.zeros)
 
 -- a term that is not below the modulus is refused with its place
-pub of_term : (s : Sequence) (i : ℕ) → TermAt s i → fault_of s ≡ Refused (R.Term i)
+pub of_term : (s : Sequence) (i : ℕ) → TermAt s i → fault_of s ≡ Err (R.Term i)
 unfolding fault_of
 of_term s i h =
     let first_is : first_large s.modulus s.terms s.count ≡ i =
@@ -154,7 +152,7 @@ inside m h = go (ltb m 2) refl h
     go true e k = false_true (sym k)
     go false e k = (ltb-false _ _ e, ltb-false _ _ k)
 
-pub open_done : (m : ℕ) → 2 ≤ m → m ≤ max_modulus → open_of m ≡ record { sequence = fresh m; outcome = Done }
+pub open_done : (m : ℕ) → 2 ≤ m → m ≤ max_modulus → open_of m ≡ record { sequence = fresh m; outcome = Ok tt }
 unfolding open_of
 open_done m h k = rw (le-ltb _ _ h, le-ltb _ _ k)
 
@@ -162,10 +160,10 @@ open_done m h k = rw (le-ltb _ _ h, le-ltb _ _ k)
 
 -- each reply of a push by its refusal, with what it says where a term is too large; or none
 pub data Push (s : Sequence) (t : ℕ) (o : Outcome) : Type 0 where
-  unsound : o ≡ Refused R.Sequence → Push s t o
-  full : o ≡ Refused R.Full → Push s t o
-  large : IsSound s → s.count < max_terms → s.modulus ≤ t → o ≡ Refused (R.Term s.count) → Push s t o
-  done : o ≡ Done → Push s t o
+  unsound : o ≡ Err R.Sequence → Push s t o
+  full : o ≡ Err R.Full → Push s t o
+  large : IsSound s → s.count < max_terms → s.modulus ≤ t → o ≡ Err (R.Term s.count) → Push s t o
+  done : o ≡ Ok tt → Push s t o
 
 pub pushing : (s : Sequence) (t : ℕ) → Push s t (push_of s t).outcome
 unfolding push_of
@@ -176,7 +174,7 @@ pushing s t = go (is_sound (fault_of s)) (eqb s.count max_terms) (leb s.modulus 
 
     go :
         (x y z : Bool) → is_sound (fault_of s) ≡ x → eqb s.count max_terms ≡ y → leb s.modulus t ≡ z
-        → Push s t (pick x (pick y (with s (Refused R.Full)) (pick z (with s (Refused (R.Term s.count))) (with (longer s t) Done))) (with s (Refused R.Sequence))).outcome
+        → Push s t (pick x (pick y (with s (Err R.Full)) (pick z (with s (Err (R.Term s.count))) (with (longer s t) (Ok tt)))) (with s (Err R.Sequence))).outcome
     go false y z x' y' z' = unsound refl
     go true true z x' y' z' = full refl
     go true false true x' y' z' =
@@ -184,20 +182,20 @@ pushing s t = go (is_sound (fault_of s)) (eqb s.count max_terms) (leb s.modulus 
         large k (lt_of_le-ne k.count (λ e. false_true (sym y' ∙ eq-eqb _ _ e))) (leb-true _ _ z') refl
     go true false false x' y' z' = done refl
 
-pub push_done : (s : Sequence) (t : ℕ) → IsSound s → s.count < max_terms → t < s.modulus → push_of s t ≡ record { sequence = longer s t; outcome = Done }
+pub push_done : (s : Sequence) (t : ℕ) → IsSound s → s.count < max_terms → t < s.modulus → push_of s t ≡ record { sequence = longer s t; outcome = Ok tt }
 unfolding push_of
 push_done s t h k b = rw (is_sound_lem s h, ne_eqb s.count max_terms (λ e. omega arith), lt-leb _ _ b)
 
-pub push_full : (s : Sequence) (t : ℕ) → IsSound s → s.count ≡ max_terms → push_of s t ≡ record { sequence = s; outcome = Refused R.Full }
+pub push_full : (s : Sequence) (t : ℕ) → IsSound s → s.count ≡ max_terms → push_of s t ≡ record { sequence = s; outcome = Err R.Full }
 unfolding push_of
 push_full s t h k = rw (is_sound_lem s h, eq-eqb _ _ k)
 
-pub push_large : (s : Sequence) (t : ℕ) → IsSound s → s.count < max_terms → s.modulus ≤ t → push_of s t ≡ record { sequence = s; outcome = Refused (R.Term s.count) }
+pub push_large : (s : Sequence) (t : ℕ) → IsSound s → s.count < max_terms → s.modulus ≤ t → push_of s t ≡ record { sequence = s; outcome = Err (R.Term s.count) }
 unfolding push_of
 push_large s t h k b = rw (is_sound_lem s h, ne_eqb s.count max_terms (λ e. omega arith), le-leb _ _ b)
 
 -- one that is refused leaves the sequence as it is
-pub push_kept : (s : Sequence) (t : ℕ) → ((push_of s t).outcome ≡ Done → ⊥) → (push_of s t).sequence ≡ s
+pub push_kept : (s : Sequence) (t : ℕ) → ((push_of s t).outcome ≡ Ok tt → ⊥) → (push_of s t).sequence ≡ s
 unfolding push_of
 push_kept s t h = go (is_sound (fault_of s)) (eqb s.count max_terms) (leb s.modulus t) h
   where
@@ -205,9 +203,9 @@ push_kept s t h = go (is_sound (fault_of s)) (eqb s.count max_terms) (leb s.modu
     with x o = record { sequence = x; outcome = o }
 
     reply : Bool → Bool → Bool → Pushed
-    reply x y z = pick x (pick y (with s (Refused R.Full)) (pick z (with s (Refused (R.Term s.count))) (with (longer s t) Done))) (with s (Refused R.Sequence))
+    reply x y z = pick x (pick y (with s (Err R.Full)) (pick z (with s (Err (R.Term s.count))) (with (longer s t) (Ok tt)))) (with s (Err R.Sequence))
 
-    go : (x y z : Bool) → ((reply x y z).outcome ≡ Done → ⊥) → (reply x y z).sequence ≡ s
+    go : (x y z : Bool) → ((reply x y z).outcome ≡ Ok tt → ⊥) → (reply x y z).sequence ≡ s
     go false y z h = refl
     go true true z h = refl
     go true false true h = refl
@@ -237,27 +235,27 @@ unfolding sequence_of
 term_cell query i h = at_tabulate max_terms (λ i. cell_at query (2 + i)) i h
 
 -- a refusal has its number
-pub same_number : {r r' : Refusal} → Refused r ≡ Refused r' → (refusal r).number ≡ (refusal r').number
+pub same_number : {r r' : Refusal} → ◌≡◌ {A = Outcome} (Err r) (Err r') → (refusal r).number ≡ (refusal r').number
 same_number h = ap (λ (o : Outcome). (outcome_answer o).number) h
 
 -- each reply of the check of a query, with what it says where a term is too large; or none
 pub data Check (query : List ℕ) (o : Outcome) : Type 0 where
-  buffer : o ≡ Refused R.Buffer → Check query o
+  buffer : o ≡ Err R.Buffer → Check query o
   fault_of_lem : length query ≡ query_bytes → Fault (sequence_of query) o → Check query o
 
 pub checking : (query : List ℕ) → Check query (check_of query)
 unfolding check_of
 checking query = go (eqb (length query) query_bytes) refl
   where
-    go : (b : Bool) → eqb (length query) query_bytes ≡ b → Check query (pick b (fault_of (sequence_of query)) (Refused R.Buffer))
+    go : (b : Bool) → eqb (length query) query_bytes ≡ b → Check query (pick b (fault_of (sequence_of query)) (Err R.Buffer))
     go true e = fault_of_lem (eqb-true _ _ e) (fault (sequence_of query))
     go false e = buffer refl
 
 -- a query's own refusals are numbered from 1 to 5
-pub check_small : (query : List ℕ) {r : Refusal} → check_of query ≡ Refused r → (refusal r).number ≤ 5
+pub check_small : (query : List ℕ) {r : Refusal} → check_of query ≡ Err r → (refusal r).number ≤ 5
 check_small query {r} h = go (checking query)
   where
-    small : {x : Refusal} → check_of query ≡ Refused x → (refusal x).number ≤ 5 → (refusal r).number ≤ 5
+    small : {x : Refusal} → check_of query ≡ Err x → (refusal x).number ≤ 5 → (refusal r).number ≤ 5
     small e k = omega (arith, k, same_number (sym e ∙ h))
 
     fault_small : Fault (sequence_of query) (check_of query) → (refusal r).number ≤ 5
@@ -272,11 +270,11 @@ check_small query {r} h = go (checking query)
     go (fault_of_lem l f) = fault_small f
 
 -- 3 is given for the first term that is not below the modulus
-pub term_check : (query : List ℕ) (i : ℕ) → check_of query ≡ Refused (R.Term i) → (length query ≡ query_bytes) × TermAt (sequence_of query) i
+pub term_check : (query : List ℕ) (i : ℕ) → check_of query ≡ Err (R.Term i) → (length query ≡ query_bytes) × TermAt (sequence_of query) i
 term_check query i h = go (checking query)
   where
     -- another number than 3
-    other : {r : Refusal} → check_of query ≡ Refused r → ((refusal r).number ≡ 3 → ⊥) → (length query ≡ query_bytes) × TermAt (sequence_of query) i
+    other : {r : Refusal} → check_of query ≡ Err r → ((refusal r).number ≡ 3 → ⊥) → (length query ≡ query_bytes) × TermAt (sequence_of query) i
     other e k = absurd (k (same_number (sym e ∙ h)))
 
     of_fault : length query ≡ query_bytes → Fault (sequence_of query) (check_of query) → (length query ≡ query_bytes) × TermAt (sequence_of query) i
@@ -290,39 +288,48 @@ term_check query i h = go (checking query)
     go (buffer e) = other e (λ k. omega arith)
     go (fault_of_lem l f) = of_fault l f
 
-pub check_term : (query : List ℕ) (i : ℕ) → length query ≡ query_bytes → TermAt (sequence_of query) i → check_of query ≡ Refused (R.Term i)
+pub check_term : (query : List ℕ) (i : ℕ) → length query ≡ query_bytes → TermAt (sequence_of query) i → check_of query ≡ Err (R.Term i)
 unfolding check_of
 check_term query i h t = rw (eq-eqb _ _ h) (of_term (sequence_of query) i t)
 
-pub check_done : (query : List ℕ) → check_of query ≡ Done → (length query ≡ query_bytes) × IsSound (sequence_of query)
+pub check_done : (query : List ℕ) → check_of query ≡ Ok tt → (length query ≡ query_bytes) × IsSound (sequence_of query)
 unfolding check_of
 check_done query h = go (eqb (length query) query_bytes) refl h
   where
-    go : (b : Bool) → eqb (length query) query_bytes ≡ b → pick b (fault_of (sequence_of query)) (Refused R.Buffer) ≡ Done → (length query ≡ query_bytes) × IsSound (sequence_of query)
+    go : (b : Bool) → eqb (length query) query_bytes ≡ b → pick b (fault_of (sequence_of query)) (Err R.Buffer) ≡ Ok tt → (length query ≡ query_bytes) × IsSound (sequence_of query)
     go true e h = (eqb-true _ _ e, sound_of (sequence_of query) (ap is_sound h))
     go false e h = let z : ◌≡◌ {A = Bool} false true = cc in false_true z
 
-pub done_check : (query : List ℕ) → length query ≡ query_bytes → IsSound (sequence_of query) → check_of query ≡ Done
+pub done_check : (query : List ℕ) → length query ≡ query_bytes → IsSound (sequence_of query) → check_of query ≡ Ok tt
 unfolding check_of
 done_check query h k = rw (eq-eqb _ _ h) (of_sound (sequence_of query) k)
 
--- what `check` tells
-pub checked : (query : List ℕ) {x : Checked} → x ≡ checked_of query → x.outcome ≡ check_of query
-unfolding checked_of
-checked query e = ap (λ (y : Checked). y.outcome) e
+-- a refusal is the same whatever else a call may answer
+pub same_refusal : {A : Type 0} {r r' : Refusal} → ◌≡◌ {A = Result A Refusal} (Err r) (Err r') → r ≡ r'
+same_refusal h = cc
 
--- and hands on: of a query that is not refused, its sequence, which is sound
+-- what `check` tells of a query that is refused
+pub checked_refused : (query : List ℕ) {r : Refusal} → Err r ≡ checked_of query → check_of query ≡ Err r
+unfolding checked_of
+checked_refused query {r} e = go (check_of query) refl e
+  where
+    go : (o : Outcome) → check_of query ≡ o → Err r ≡ and_then o (Ok (sequence_of query)) → check_of query ≡ Err r
+    go (Ok tt) h k = let z : ◌≡◌ {A = Bool} false true = cc in false_true z
+    go (Err x) h k = h ∙ ap Err (same_refusal (sym k))
+
+-- and hands on of one that is not: its sequence, which is sound
 pub record Accepted (query : List ℕ) (s : Sequence) : Type 0 where
+  pub done : check_of query ≡ Ok tt
   pub long : length query ≡ query_bytes
   pub same : s ≡ sequence_of query
   pub sound : IsSound s
 
-pub accepted : (query : List ℕ) {x : Checked} → x ≡ checked_of query → x.outcome ≡ Done → Accepted query x.sequence
+pub accepted : (query : List ℕ) {s : Sequence} → Ok s ≡ checked_of query → Accepted query s
 unfolding checked_of
-accepted query {x} e d = record { long = k.0; same = q; sound = subst IsSound (sym q) k.1 }
+accepted query {s} e = go (check_of query) refl e
   where
-    k : (length query ≡ query_bytes) × IsSound (sequence_of query)
-    k = check_done query (sym (checked query e) ∙ d)
-
-    q : x.sequence ≡ sequence_of query
-    q = ap (λ (y : Checked). y.sequence) e ∙ ap (λ (b : Bool). pick b (sequence_of query) (fresh 0)) (eq-eqb _ _ k.0)
+    go : (o : Outcome) → check_of query ≡ o → Ok s ≡ and_then o (Ok (sequence_of query)) → Accepted query s
+    go (Ok tt) h k =
+        let q : s ≡ sequence_of query = cc in
+        record { done = h; long = (check_done query h).0; same = q; sound = subst IsSound (sym q) (check_done query h).1 }
+    go (Err x) h k = let z : ◌≡◌ {A = Bool} false true = cc in false_true z

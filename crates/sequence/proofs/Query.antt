@@ -6,12 +6,12 @@ use mathlib.Core.List.{List, ◌∷◌}
 use Prim.Native.Nat.{ℕ, suc, ◌+◌, ◌*◌, ◌≤◌, ◌<◌}
 use native.Mathlib.Omega.{arith}
 use lib.ListN.{length}
+use Rattle.std.specs.Prelude.{Ok}
 use Rattle.lists.specs.Table.{at, tabulate}
 use Rattle.lists.proofs.Table.{length_tabulate, at_tabulate, at_past}
 use Rattle.lists.proofs.Search.{lt_or_le}
 use Rattle.cells.specs.Cell.{cell_at}
 use Rattle.cells.proofs.Laws.{length_bytes_of, cell_at_bytes_of}
-use Rattle.sequence.specs.declared.Outcome.TheVariants.{Done}
 use Rattle.sequence.specs.Limits.{max_modulus, max_terms, query_bytes}
 use Rattle.sequence.specs.Rules.{IsSound, query_of, sequence_of, check_of}
 use Rattle.sequence.proofs.Laws.{term_cell, done_check}
@@ -59,5 +59,5 @@ module _ (m : ℕ) (ts : List ℕ) (least : 2 ≤ m) (most : m ≤ max_modulus) 
       term : (j : ℕ) → j < max_terms → at (sequence_of (query_of m ts)).terms j ≡ at ts j
       term j h = term_cell (query_of m ts) j h ∙ query_term j h
 
-  pub query_passes : check_of (query_of m ts) ≡ Done
+  pub query_passes : check_of (query_of m ts) ≡ Ok tt
   query_passes = done_check (query_of m ts) (query_size m ts) query_sound

@@ -1,6 +1,6 @@
 -- Laws of a trace: how many records it stores, that they are the sheet's, and its answer.
 -- Assumes nothing.
-use mathlib.Core.Path.{◌≡◌, refl, sym, ap, ap₂, subst, ◌∙◌}
+use mathlib.Core.Path.{◌≡◌, refl, sym, ap, ap₂, ◌∙◌}
 use mathlib.Core.Bool.{Bool, true, false, not}
 use mathlib.Core.List.{List, [], ◌∷◌, ◌++◌, append_assoc}
 use Prim.Native.Nat.{ℕ, zero, suc, ◌≤◌, ◌<◌}
@@ -10,6 +10,7 @@ use lib.Dec.{leb, eqb}
 use lib.ListN.{length, set, drop, get_or-append, replicate, length-map, length-append, length-drop, length-replicate}
 use lib.Seq.{drop-cons, set_at}
 use borrow.Author.Tests.{leb-true}
+use Rattle.std.specs.Prelude.{Result, Ok, Err}
 use Rattle.lists.specs.Choice.{pick}
 use Rattle.lists.specs.Table.{at, tabulate}
 use Rattle.lists.proofs.Table.{length_tabulate, tabulate_eq, tabulate_last, map_tabulate}
@@ -24,16 +25,14 @@ use Rattle.synthesis.proofs.Logging.{read_sheet}
 use Rattle.sequence.specs.declared.Sequence.{Sequence}
 use Rattle.sequence.specs.declared.Refusal.{Refusal}
 use Rattle.sequence.specs.declared.Refusal.TheVariants as R
-use Rattle.sequence.specs.declared.Uniqueness.{Uniqueness}
-use Rattle.sequence.specs.declared.Reported.{Reported}
-use Rattle.sequence.specs.declared.Reported.TheVariants as P
+use Rattle.sequence.specs.declared.Report.{Report}
 use Rattle.sequence.specs.declared.Worked.{Worked}
 use Rattle.sequence.specs.Limits.{a_bytes, b_bytes}
-use Rattle.sequence.specs.Answers.{refused, reported_answer, first_of}
+use Rattle.sequence.specs.Answers.{refused, reported_answer, first_of, Reported}
 use Rattle.sequence.specs.Rules.{fault_of, is_sound, IsSound}
-use Rattle.sequence.specs.Report.{register_told, register_answer, a_buffer, b_buffer, written}
-use Rattle.sequence.specs.Trace.{records_of, sheet_size, trace_of, trace_answer, sheet_filled, words_of, count_of, work_of, unworked}
-use Rattle.sequence.proofs.Laws.{sound_of}
+use Rattle.sequence.specs.Report.{register_told, register_answer, a_buffer, b_buffer, filled}
+use Rattle.sequence.specs.Trace.{records_of, sheet_size, trace_of, trace_answer, sheet_filled, words_of, worked, work_of}
+use Rattle.sequence.proofs.Laws.{sound_of, same_refusal}
 
 -- ---- the log before anything is written to it
 
@@ -47,17 +46,17 @@ zeros_long = length-replicate log_words zero
 -- ---- the reply
 
 -- a trace that is not refused is of a sound sequence, and the sheet has room
-pub traced : (s : Sequence) (a b : List ℕ) (n l : ℕ) (w : Uniqueness) → trace_of s a b n ≡ P.Length l w → IsSound s × (sheet_size s ≤ n)
+pub traced : (s : Sequence) (a b : List ℕ) (n : ℕ) (r : Report) → trace_of s a b n ≡ Ok r → IsSound s × (sheet_size s ≤ n)
 unfolding trace_of
-traced s a b n l u h = go (eqb (length a) a_bytes) (eqb (length b) b_bytes) (is_sound (fault_of s)) (leb (sheet_size s) n) refl refl h
+traced s a b n r h = go (eqb (length a) a_bytes) (eqb (length b) b_bytes) (is_sound (fault_of s)) (leb (sheet_size s) n) refl refl h
   where
     is_length : Reported → Bool
-    is_length (P.Length l w) = true
-    is_length (P.Refused r) = false
+    is_length (Ok x) = true
+    is_length (Err r) = false
 
     go :
         (x y z w : Bool) → is_sound (fault_of s) ≡ z → leb (sheet_size s) n ≡ w
-        → pick x (pick y (pick z (pick w (register_told s) (P.Refused R.Buffer)) (P.Refused R.Sequence)) (P.Refused R.Buffer)) (P.Refused R.Buffer) ≡ P.Length l u
+        → pick x (pick y (pick z (pick w (register_told s) (Err R.Buffer)) (Err R.Sequence)) (Err R.Buffer)) (Err R.Buffer) ≡ Ok r
         → IsSound s × (sheet_size s ≤ n)
     go false y z w f g h = false_true (ap is_length h)
     go true false z w f g h = false_true (ap is_length h)
@@ -72,7 +71,7 @@ trace_told s a b n e = ap reported_answer e ∙ go (eqb (length a) a_bytes) (eqb
   where
     go :
         (x y z w : Bool)
-        → reported_answer (pick x (pick y (pick z (pick w (register_told s) (P.Refused R.Buffer)) (P.Refused R.Sequence)) (P.Refused R.Buffer)) (P.Refused R.Buffer))
+        → reported_answer (pick x (pick y (pick z (pick w (register_told s) (Err R.Buffer)) (Err R.Sequence)) (Err R.Buffer)) (Err R.Buffer))
         ≡ pick (not x) (refused 5) (pick (not y) (refused 5) (pick (not z) (refused 21) (pick (not w) (refused 5) (register_answer s))))
     go false y z w = refl
     go true false z w = refl
@@ -133,45 +132,54 @@ filled_sound s h lent behind = ap₂ (λ (xs : List StepRecord) (k : ℕ). xs ++
 -- ---- what `work` gives
 
 -- what `work` promises of its reply and of what it is lent
-abbrev pub Promised : Sequence → List ℕ → List ℕ → ℕ → List ℕ → Worked → List ℕ → List ℕ → List ℕ → Type 0
+abbrev pub Promised : Sequence → List ℕ → List ℕ → ℕ → List ℕ → Result Worked Refusal → List ℕ → List ℕ → List ℕ → Type 0
 Promised s a b n log r a' b' log' =
-    (r ≡ work_of s a b n) × (a' ≡ written r.reply (a_buffer s) a) × (b' ≡ written r.reply (b_buffer s) b) × (log' ≡ sheet_filled r.reply (words_of s) log)
+    (r ≡ work_of s a b n) × (a' ≡ filled r (a_buffer s) a) × (b' ≡ filled r (b_buffer s) b) × (log' ≡ sheet_filled r (words_of s) log)
 
 -- where it is refused, all is as lent
-pub work_refused : (s : Sequence) (a b : List ℕ) (n : ℕ) (log : List ℕ) {x : Refusal} {r : Worked} → r ≡ unworked x → trace_of s a b n ≡ P.Refused x
-    → Promised s a b n log r a b log
-work_refused s a b n log {x} e h =
-    subst (λ (r : Worked). Promised s a b n log r a b log) (sym e) (ap (λ (r : Reported). record { reply = r; count = count_of r s }) (sym h), refl, refl, refl)
+pub work_refused : (s : Sequence) (a b : List ℕ) (n : ℕ) (log : List ℕ) {x : Refusal} → trace_of s a b n ≡ Err x → Promised s a b n log (Err x) a b log
+work_refused s a b n log h = (ap (λ (r : Reported). worked r s) (sym h), refl, refl, refl)
 
-pub work_done : (s : Sequence) (a b : List ℕ) (n l : ℕ) (w : Uniqueness) (k : ℕ) → trace_of s a b n ≡ P.Length l w → k ≡ sheet_size s
-    → record { reply = P.Length l w; count = k } ≡ work_of s a b n
-work_done s a b n l w k h e =
-    ap (λ (c : ℕ). record { reply = P.Length l w; count = c }) e ∙ ap (λ (r : Reported). record { reply = r; count = count_of r s }) (sym h)
+pub work_done : (s : Sequence) (a b : List ℕ) (n : ℕ) (x : Report) (k : ℕ) → trace_of s a b n ≡ Ok x → k ≡ sheet_size s
+    → Ok (record { report = x; count = k }) ≡ work_of s a b n
+work_done s a b n x k h e =
+    ap (λ (c : ℕ). Ok (record { report = x; count = c })) e ∙ ap (λ (r : Reported). worked r s) (sym h)
 
 -- the log has places for all words
 pub log_filled : (s : Sequence) (log : List ℕ) → IsSound s → length log ≡ log_words → overlaid (words_of s) log ≡ words_of s ++ drop (length (words_of s)) log
 log_filled s log h long = overlaid_all (words_of s) log (omega (arith, words_long s, size_most s h, long))
 
-module _ (s : Sequence) (a b : List ℕ) (n : ℕ) (y : Worked) (e : y ≡ work_of s a b n) where
-  pub reply_told : y.reply ≡ trace_of s a b n
-  reply_told = ap (λ (x : Worked). x.reply) e
+-- what it tells where it is refused, and where it is not
+pub work_told : (s : Sequence) (a b : List ℕ) (n : ℕ) {x : Refusal} → Err x ≡ work_of s a b n → trace_of s a b n ≡ Err x
+work_told s a b n {x} e = go (trace_of s a b n) refl e
+  where
+    go : (r : Reported) → trace_of s a b n ≡ r → Err x ≡ worked r s → trace_of s a b n ≡ Err x
+    go (Ok y) h k = let z : ◌≡◌ {A = Bool} false true = cc in false_true z
+    go (Err y) h k = h ∙ ap Err (same_refusal (sym k))
 
-  count_told : y.count ≡ count_of y.reply s
-  count_told = ap (λ (x : Worked). x.count) e ∙ sym (ap (λ (x : Worked). count_of x.reply s) e)
+module _ (s : Sequence) (a b : List ℕ) (n : ℕ) (y : Worked) (e : Ok y ≡ work_of s a b n) where
+  told_both : (trace_of s a b n ≡ Ok y.report) × (y.count ≡ sheet_size s)
+  told_both = go (trace_of s a b n) refl e
+    where
+      go : (r : Reported) → trace_of s a b n ≡ r → Ok y ≡ worked r s → (trace_of s a b n ≡ Ok y.report) × (y.count ≡ sheet_size s)
+      go (Ok x) h k =
+          let q : y ≡ record { report = x; count = sheet_size s } = cc in
+          (h ∙ ap (λ (w : Worked). Ok w.report) (sym q), ap (λ (w : Worked). w.count) q)
+      go (Err x) h k = let z : ◌≡◌ {A = Bool} false true = cc in false_true z
+
+  pub reply_told : trace_of s a b n ≡ Ok y.report
+  reply_told = told_both.0
+
+  pub count_told : y.count ≡ sheet_size s
+  count_told = told_both.1
 
   -- they fit the sheet, and the log
   pub count_fits : (y.count ≤ n) × (y.count ≤ log_words)
-  count_fits = go y.reply (sym reply_told) y.count count_told
-    where
-      go : (r : Reported) → trace_of s a b n ≡ r → (k : ℕ) → k ≡ count_of r s → (k ≤ n) × (k ≤ log_words)
-      go (P.Length l w) f k g = let t = traced s a b n l w f in (omega (arith, g, t.1), omega (arith, g, size_most s t.0))
-      go (P.Refused r) f k g = (omega arith, omega arith)
+  count_fits = let t = traced s a b n y.report reply_told in (omega (arith, count_told, t.1), omega (arith, count_told, size_most s t.0))
 
   -- with all of them stored it is as promised
-  pub filling_all : (log : List ℕ) → log ≡ sheet_filled y.reply (words_of s) zeros → (lent : List StepRecord)
-      → filling_of log lent y.count ≡ sheet_filled y.reply (records_of s) lent
-  filling_all log w lent = ap₂ (λ (z : List ℕ) (k : ℕ). filling_of z lent k) w count_told ∙ go y.reply (sym reply_told)
-    where
-      go : (r : Reported) → trace_of s a b n ≡ r → filling_of (sheet_filled r (words_of s) zeros) lent (count_of r s) ≡ sheet_filled r (records_of s) lent
-      go (P.Length l w) f = filled_sound s (traced s a b n l w f).0 lent (drop (length (words_of s)) zeros)
-      go (P.Refused r) f = filling_none zeros lent
+  pub filling_all : (log : List ℕ) → log ≡ words_of s ++ drop (length (words_of s)) zeros → (lent : List StepRecord)
+      → filling_of log lent y.count ≡ records_of s ++ drop (length (records_of s)) lent
+  filling_all log w lent =
+      ap₂ (λ (z : List ℕ) (k : ℕ). filling_of z lent k) w count_told
+      ∙ filled_sound s (traced s a b n y.report reply_told).0 lent (drop (length (words_of s)) zeros)

@@ -1,17 +1,28 @@
 -- Answers in the paper's numbers: a definition gives the number and the values of each case of an answer.
 -- Assumes nothing.
-use Rattle.std.specs.Prelude.{Bool, List, [], ◌∷◌, ℕ}
+use Rattle.std.specs.Prelude.{Bool, List, [], ◌∷◌, ℕ, Option, Some, None, Result, Ok, Err}
 use Rattle.lists.specs.Choice.{pick}
 use Rattle.sequence.specs.declared.Refusal.{Refusal}
 use Rattle.sequence.specs.declared.Refusal.TheVariants as R
-use Rattle.sequence.specs.declared.Place.{Place}
-use Rattle.sequence.specs.declared.Place.TheVariants.{At, Nowhere}
-use Rattle.sequence.specs.declared.Outcome.{Outcome}
-use Rattle.sequence.specs.declared.Outcome.TheVariants as O
+use Rattle.sequence.specs.declared.Report.{Report}
 use Rattle.sequence.specs.declared.Uniqueness.{Uniqueness}
 use Rattle.sequence.specs.declared.Uniqueness.TheVariants as U
-use Rattle.sequence.specs.declared.Reported.{Reported}
-use Rattle.sequence.specs.declared.Reported.TheVariants as P
+
+-- what a call answers that gives nothing else, and what one that reports a register does
+abbrev pub Outcome : Type 0
+Outcome = Result (Unit {0}) Refusal
+
+abbrev pub Reported : Type 0
+Reported = Result Report Refusal
+
+-- a report: the length, and whether the register is the only one
+abbrev pub of_length : ℕ → Uniqueness → Reported
+of_length l w = Ok (record { length = l; uniqueness = w })
+
+-- what comes after an outcome: the same refusal, or x
+abbrev pub and_then : {A : Type 0} → Outcome → Result A Refusal → Result A Refusal
+and_then (Ok tt) x = x
+and_then (Err r) x = Err r
 
 -- the number of the refusal, 0 where the call is not refused, and the values that go with it
 pub record Answer : Type 0 where
@@ -52,13 +63,13 @@ refusal R.Census = refused 33
 refusal R.Batch = refused 34
 
 -- a place as a value
-abbrev pub placed : Place → List ℕ
-placed (At i) = i ∷ []
-placed Nowhere = []
+abbrev pub placed : Option ℕ → List ℕ
+placed (Some i) = i ∷ []
+placed None = []
 
 abbrev pub outcome_answer : Outcome → Answer
-outcome_answer O.Done = granted []
-outcome_answer (O.Refused r) = refusal r
+outcome_answer (Ok tt) = granted []
+outcome_answer (Err r) = refusal r
 
 -- whether a register is the only one, as a value
 abbrev pub uniqueness : Uniqueness → ℕ
@@ -68,8 +79,8 @@ uniqueness U.Several = 2
 
 -- a register's reply: its length, and that
 abbrev pub reported_answer : Reported → Answer
-reported_answer (P.Length l w) = granted (l ∷ uniqueness w ∷ [])
-reported_answer (P.Refused r) = refusal r
+reported_answer (Ok x) = granted (x.length ∷ uniqueness x.uniqueness ∷ [])
+reported_answer (Err r) = refusal r
 
 -- Refusals in their order: the answer beside the first test that holds, and the last one where none does.
 unfoldable pub first_of : List (Bool × Answer) → Answer → Answer

@@ -1,6 +1,6 @@
 -- What the register and the profile of a sequence reply and write.
 -- Assumes nothing.
-use Rattle.std.specs.Prelude.{Bool, not, List, [], ◌∷◌, ℕ, ◌*◌, leb, eqb, length}
+use Rattle.std.specs.Prelude.{Bool, not, List, [], ◌∷◌, ℕ, ◌*◌, leb, eqb, length, Result, Ok, Err}
 use Rattle.lists.specs.Choice.{pick}
 use Rattle.lists.specs.Table.{at, tabulate}
 use Rattle.cells.specs.Cell.{bytes_of}
@@ -8,15 +8,12 @@ use Rattle.residue.specs.Factors.{is_prime}
 use Rattle.recurrence.specs.Register.{Register, register}
 use Rattle.synthesis.specs.Synthesis.{length_at}
 use Rattle.sequence.specs.declared.Sequence.{Sequence}
+use Rattle.sequence.specs.declared.Refusal.{Refusal}
 use Rattle.sequence.specs.declared.Refusal.TheVariants as R
-use Rattle.sequence.specs.declared.Outcome.{Outcome}
-use Rattle.sequence.specs.declared.Outcome.TheVariants as O
 use Rattle.sequence.specs.declared.Uniqueness.{Uniqueness}
 use Rattle.sequence.specs.declared.Uniqueness.TheVariants as U
-use Rattle.sequence.specs.declared.Reported.{Reported}
-use Rattle.sequence.specs.declared.Reported.TheVariants as P
 use Rattle.sequence.specs.Limits.{max_terms, max_cells, a_bytes, b_bytes, profile_bytes}
-use Rattle.sequence.specs.Answers.{Answer, granted, refused, uniqueness, first_of}
+use Rattle.sequence.specs.Answers.{Answer, granted, refused, uniqueness, first_of, Outcome, Reported, of_length}
 use Rattle.sequence.specs.Rules.{fault_of, is_sound}
 
 -- the register of a sequence: of its first `count` terms
@@ -43,7 +40,7 @@ uniqueness_of m n l = uniqueness_by (is_prime m) n l
 
 -- the reply with the length l for n terms modulo m
 abbrev pub length_told : ℕ → ℕ → ℕ → Reported
-length_told m n l = P.Length l (uniqueness_of m n l)
+length_told m n l = of_length l (uniqueness_of m n l)
 
 abbrev pub register_told : Sequence → Reported
 register_told s = length_told s.modulus s.count (register_of s).length
@@ -56,9 +53,9 @@ unfoldable pub report_of : Sequence → List ℕ → List ℕ → Reported
 report_of s a b =
     pick (eqb (length a) a_bytes)
     (pick (eqb (length b) b_bytes)
-    (pick (is_sound (fault_of s)) (register_told s) (P.Refused R.Sequence))
-    (P.Refused R.Buffer))
-    (P.Refused R.Buffer)
+    (pick (is_sound (fault_of s)) (register_told s) (Err R.Sequence))
+    (Err R.Buffer))
+    (Err R.Buffer)
 
 abbrev pub report_answer : Sequence → List ℕ → List ℕ → Answer
 report_answer s a b =
@@ -69,21 +66,17 @@ report_answer s a b =
     ∷ [])
     (register_answer s)
 
--- a buffer at exit: written, or as lent
-abbrev pub written : Reported → List ℕ → List ℕ → List ℕ
-written (P.Length l w) new old = new
-written (P.Refused r) new old = old
+-- a buffer at exit: filled, or as lent where the call is refused
+abbrev pub filled : {A : Type 0} → Result A Refusal → List ℕ → List ℕ → List ℕ
+filled (Ok x) new old = new
+filled (Err r) new old = old
 
 -- 5, 21, in this order
 unfoldable pub profile_of : Sequence → List ℕ → Outcome
 profile_of s cells =
     pick (eqb (length cells) profile_bytes)
-    (pick (is_sound (fault_of s)) O.Done (O.Refused R.Sequence))
-    (O.Refused R.Buffer)
+    (pick (is_sound (fault_of s)) (Ok tt) (Err R.Sequence))
+    (Err R.Buffer)
 
 abbrev pub profile_answer : Sequence → List ℕ → Answer
 profile_answer s cells = first_of ((not (eqb (length cells) profile_bytes), refused 5) ∷ (not (is_sound (fault_of s)), refused 21) ∷ []) (granted [])
-
-abbrev pub filled : Outcome → List ℕ → List ℕ → List ℕ
-filled O.Done new old = new
-filled (O.Refused r) new old = old

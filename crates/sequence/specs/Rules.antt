@@ -1,19 +1,17 @@
 -- What a sequence is (the paper's reading), what is wrong with one, and what opening one and pushing a term reply.
 -- Assumes nothing.
-use Rattle.std.specs.Prelude.{◌≡◌, Bool, true, false, not, List, [], ◌∷◌, ℕ, zero, ◌+◌, ◌≤◌, ◌<◌, ltb, leb, eqb, length, set, replicate}
+use Rattle.std.specs.Prelude.{◌≡◌, Bool, true, false, not, List, [], ◌∷◌, ℕ, zero, ◌+◌, ◌≤◌, ◌<◌, ltb, leb, eqb, length, set, replicate, Result, Ok, Err}
 use Rattle.lists.specs.Choice.{pick}
 use Rattle.lists.specs.Table.{at, tabulate}
 use Rattle.lists.specs.Search.{first, all}
 use Rattle.cells.specs.Cell.{cell_at, cells_from, bytes_of}
 use Rattle.sequence.specs.declared.Sequence.{Sequence}
+use Rattle.sequence.specs.declared.Refusal.{Refusal}
 use Rattle.sequence.specs.declared.Refusal.TheVariants as R
-use Rattle.sequence.specs.declared.Outcome.{Outcome}
-use Rattle.sequence.specs.declared.Outcome.TheVariants.{Done, Refused}
 use Rattle.sequence.specs.declared.Opened.{Opened}
 use Rattle.sequence.specs.declared.Pushed.{Pushed}
-use Rattle.sequence.specs.declared.Checked.{Checked}
 use Rattle.sequence.specs.Limits.{max_modulus, max_terms, query_bytes}
-use Rattle.sequence.specs.Answers.{Answer, granted, refused, refused_at, first_of}
+use Rattle.sequence.specs.Answers.{Answer, granted, refused, refused_at, first_of, Outcome, and_then}
 
 -- ---- what is wrong with a sequence
 
@@ -31,14 +29,14 @@ zero_from k n xs = all n (λ i. pick (ltb i k) true (eqb (at xs i) zero))
 -- the first thing wrong, as the refusal of a query that writes the sequence down: 1, 2, 3 with the first such place, 4, in this order
 unfoldable pub fault_of : Sequence → Outcome
 fault_of s =
-    pick (outside s.modulus) (Refused R.Modulus)
-    (pick (ltb max_terms s.count) (Refused R.Count)
-    (pick (ltb (first_large s.modulus s.terms s.count) s.count) (Refused (R.Term (first_large s.modulus s.terms s.count)))
-    (pick (zero_from s.count max_terms s.terms) Done (Refused R.Padding))))
+    pick (outside s.modulus) (Err R.Modulus)
+    (pick (ltb max_terms s.count) (Err R.Count)
+    (pick (ltb (first_large s.modulus s.terms s.count) s.count) (Err (R.Term (first_large s.modulus s.terms s.count)))
+    (pick (zero_from s.count max_terms s.terms) (Ok tt) (Err R.Padding))))
 
 abbrev pub is_sound : Outcome → Bool
-is_sound Done = true
-is_sound (Refused r) = false
+is_sound (Ok tt) = true
+is_sound (Err r) = false
 
 -- ---- opening, pushing
 
@@ -48,7 +46,7 @@ fresh m = record { modulus = m; count = 0; terms = replicate max_terms 0 }
 
 -- 1 for a modulus outside the limits, and a sequence of zeros
 unfoldable pub open_of : ℕ → Opened
-open_of m = pick (outside m) (record { sequence = fresh 0; outcome = Refused R.Modulus }) (record { sequence = fresh m; outcome = Done })
+open_of m = pick (outside m) (record { sequence = fresh 0; outcome = Err R.Modulus }) (record { sequence = fresh m; outcome = Ok tt })
 
 -- the same by number; so below for each call
 abbrev pub open_answer : ℕ → Answer
@@ -62,9 +60,9 @@ longer s t = record { modulus = s.modulus; count = s.count + 1; terms = set s.te
 unfoldable pub push_of : Sequence → ℕ → Pushed
 push_of s t =
     pick (is_sound (fault_of s))
-    (pick (eqb s.count max_terms) (record { sequence = s; outcome = Refused R.Full })
-    (pick (leb s.modulus t) (record { sequence = s; outcome = Refused (R.Term s.count) }) (record { sequence = longer s t; outcome = Done })))
-    (record { sequence = s; outcome = Refused R.Sequence })
+    (pick (eqb s.count max_terms) (record { sequence = s; outcome = Err R.Full })
+    (pick (leb s.modulus t) (record { sequence = s; outcome = Err (R.Term s.count) }) (record { sequence = longer s t; outcome = Ok tt })))
+    (record { sequence = s; outcome = Err R.Sequence })
 
 abbrev pub push_answer : Sequence → ℕ → Answer
 push_answer s t =
@@ -87,11 +85,15 @@ sequence_of query = record { modulus = cell_at query 0; count = cell_at query 1;
 
 -- the first refusal of a query among 5, 1, 2, 3, 4
 unfoldable pub check_of : List ℕ → Outcome
-check_of query = pick (eqb (length query) query_bytes) (fault_of (sequence_of query)) (Refused R.Buffer)
+check_of query = pick (eqb (length query) query_bytes) (fault_of (sequence_of query)) (Err R.Buffer)
 
--- the sequence of a query with its refusal; a query of another length writes none down
-unfoldable pub checked_of : List ℕ → Checked
-checked_of query = record { sequence = pick (eqb (length query) query_bytes) (sequence_of query) (fresh 0); outcome = check_of query }
+-- the sequence of a query, or its refusal
+unfoldable pub checked_of : List ℕ → Result Sequence Refusal
+checked_of query = and_then (check_of query) (Ok (sequence_of query))
+
+-- the same whatever is wrong with the query; one of another length writes none down: zeros
+abbrev pub loaded_of : List ℕ → Sequence
+loaded_of query = pick (eqb (length query) query_bytes) (sequence_of query) (fresh 0)
 
 -- the refusals of a query by number, for the calls that are handed one
 abbrev pub query_refusals : List ℕ → List (Bool × Answer)

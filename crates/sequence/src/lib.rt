@@ -8,9 +8,9 @@ ghost use Rattle.steps.specs.Sizes.{log_words};
 ghost use Rattle.synthesis.specs.Synthesis.{synthesis_of};
 ghost use Rattle.sequence.specs.Limits.{max_terms, max_cells, query_bytes, a_bytes, b_bytes, register_bytes};
 ghost use Rattle.sequence.specs.Answers.{refusal, placed, outcome_answer, reported_answer};
-ghost use Rattle.sequence.specs.Report.{uniqueness_by, report_of, report_answer, written, a_buffer, b_buffer, profile_of, profile_answer, filled, profile_buffer};
-ghost use Rattle.sequence.specs.Trace.{records_of, trace_of, trace_answer, sheet_filled, words_of, work_of, unworked};
-ghost use Rattle.sequence.specs.Rules.{IsSound, outside, first_large, zero_from, fault_of, is_sound, fresh, open_of, open_answer, push_of, push_answer, sequence_of, checked_of};
+ghost use Rattle.sequence.specs.Report.{uniqueness_by, report_of, report_answer, a_buffer, b_buffer, profile_of, profile_answer, filled, profile_buffer};
+ghost use Rattle.sequence.specs.Trace.{records_of, trace_of, trace_answer, sheet_filled, words_of, work_of};
+ghost use Rattle.sequence.specs.Rules.{IsSound, outside, first_large, zero_from, fault_of, is_sound, fresh, open_of, open_answer, push_of, push_answer, sequence_of, loaded_of, checked_of};
 
 use steps::{CELLS, LOG, StepRecord, TERMS};
 use synthesis::Synthesis;
@@ -67,19 +67,6 @@ pub enum Refusal {
     Batch,
 }
 
-// The place that a refusal carries.
-#[derive(Clone, Copy)]
-pub enum Place {
-    At(usize),
-    Nowhere,
-}
-
-#[derive(Clone, Copy)]
-pub enum Outcome {
-    Done,
-    Refused(Refusal),
-}
-
 // Whether the register is the only one of its length that generates the terms. It is told for a prime modulus, and for no other.
 #[derive(Clone, Copy)]
 pub enum Uniqueness {
@@ -88,61 +75,48 @@ pub enum Uniqueness {
     NotTold,
 }
 
-// What a register's reply is: its length, and whether it is the only one.
+// What is reported of a register: its length, and whether it is the only one.
 #[derive(Clone, Copy)]
-pub enum Reported {
-    Length(u32, Uniqueness),
-    Refused(Refusal),
+pub struct Report {
+    pub length: u32,
+    pub uniqueness: Uniqueness,
 }
 
-// A trace's reply, and how many records it has for the sheet: none where it is refused.
+// A trace's report, and how many records it has for the sheet.
 #[derive(Clone, Copy)]
 pub struct Worked {
-    pub reply: Reported,
+    pub report: Report,
     pub count: usize,
 }
 
+// A refused opening hands back a sequence of zeros (01), so that there is one on a refusal too.
 #[derive(Clone, Copy)]
 pub struct Opened {
     pub sequence: Sequence,
-    pub outcome: Outcome,
+    pub outcome: Result<(), Refusal>,
 }
 
 #[derive(Clone, Copy)]
 pub struct Pushed {
     pub sequence: Sequence,
-    pub outcome: Outcome,
-}
-
-// The sequence that a query writes down, and whether the query is refused.
-#[derive(Clone, Copy)]
-pub struct Checked {
-    pub sequence: Sequence,
-    pub outcome: Outcome,
+    pub outcome: Result<(), Refusal>,
 }
 
 // Whether a modulus lies outside the limits.
 pub fn outside(modulus: u32) -> bool
     ensures { result ≡ outside modulus }
 {
-    if modulus < 2 {
-        return true;
-    }
-    if MAX_MODULUS < modulus {
-        return true;
-    }
-    false
+    modulus < 2 || MAX_MODULUS < modulus
 }
 
 // A sequence without terms.
 fn fresh(modulus: u32) -> Sequence
     ensures { result ≡ fresh modulus }
 {
-    let terms = [0u32; TERMS];
     Sequence {
-        modulus: modulus,
+        modulus,
         count: 0,
-        terms: terms,
+        terms: [0; TERMS],
     }
 }
 
@@ -156,13 +130,13 @@ pub fn open(modulus: u32) -> Opened
         let zeros = fresh(0);
         return Opened {
             sequence: zeros,
-            outcome: Outcome::Refused(Refusal::Modulus),
+            outcome: Err(Refusal::Modulus),
         };
     }
     let s = fresh(modulus);
     Opened {
         sequence: s,
-        outcome: Outcome::Done,
+        outcome: Ok(()),
     }
 }
 
@@ -171,12 +145,10 @@ fn first_large(terms: &[u32; TERMS], n: u32, modulus: u32) -> u32
     requires { (n ≤ max_terms) × (length terms.now ≡ max_terms) }
     ensures { result ≡ first_large modulus terms.now n }
 {
-    let mut i: u32 = 0;
-    while i < n {
+    for i in 0..n {
         if modulus <= terms[i as usize] {
             return i;
         }
-        i += 1;
     }
     n
 }
@@ -186,48 +158,41 @@ fn zero_from(terms: &[u32; TERMS], n: u32) -> bool
     requires { (n ≤ max_terms) × (length terms.now ≡ max_terms) }
     ensures { result ≡ zero_from n max_terms terms.now }
 {
-    let mut i = n as usize;
-    while i < TERMS {
+    for i in n as usize..TERMS {
         if terms[i] != 0 {
             return false;
         }
-        i += 1;
     }
     true
 }
 
 // The first thing wrong with a sequence, as the refusal of a query that writes it down: 1, 2, 3, 4, in this order.
-fn inspect(s: Sequence) -> Outcome
+fn inspect(s: Sequence) -> Result<(), Refusal>
     ensures { result ≡ fault_of s }
 {
     let m = s.modulus;
     let n = s.count;
     if outside(m) {
-        return Outcome::Refused(Refusal::Modulus);
+        return Err(Refusal::Modulus);
     }
     if MAX_TERMS < n {
-        return Outcome::Refused(Refusal::Count);
+        return Err(Refusal::Count);
     }
-    let terms = s.terms;
-    let i = first_large(&terms, n, m);
+    let i = first_large(&s.terms, n, m);
     if i < n {
-        return Outcome::Refused(Refusal::Term(i));
+        return Err(Refusal::Term(i));
     }
-    if zero_from(&terms, n) {
-        return Outcome::Done;
+    if zero_from(&s.terms, n) {
+        return Ok(());
     }
-    Outcome::Refused(Refusal::Padding)
+    Err(Refusal::Padding)
 }
 
 // Whether a sequence is within the limits: nothing is wrong with it.
 pub fn is_sound(s: Sequence) -> bool
     ensures { result ≡ is_sound (fault_of s) }
 {
-    let o = inspect(s);
-    match o {
-        Outcome::Done => true,
-        Outcome::Refused(_) => false,
-    }
+    inspect(s).is_ok()
 }
 
 // The sequence with one more term at its end; as it came, with the refusal, where it is unsound or full or the term is too large. The
@@ -243,13 +208,13 @@ pub fn push(s: Sequence, term: u32) -> Pushed
         if n == MAX_TERMS {
             return Pushed {
                 sequence: s,
-                outcome: Outcome::Refused(Refusal::Full),
+                outcome: Err(Refusal::Full),
             };
         }
         if s.modulus <= term {
             return Pushed {
                 sequence: s,
-                outcome: Outcome::Refused(Refusal::Term(n)),
+                outcome: Err(Refusal::Term(n)),
             };
         }
         let mut longer = s;
@@ -257,12 +222,12 @@ pub fn push(s: Sequence, term: u32) -> Pushed
         longer.count = n + 1;
         return Pushed {
             sequence: longer,
-            outcome: Outcome::Done,
+            outcome: Ok(()),
         };
     }
     Pushed {
         sequence: s,
-        outcome: Outcome::Refused(Refusal::Sequence),
+        outcome: Err(Refusal::Sequence),
     }
 }
 
@@ -272,37 +237,38 @@ fn load(query: &[u8]) -> Sequence
     ensures { result ≡ sequence_of query.now }
 {
     let mut terms = [0u32; TERMS];
-    let mut i: usize = 0;
-    while i < TERMS {
+    for i in 0..TERMS {
         terms[i] = cells::cell(query, 2 + i);
-        i += 1;
     }
     let modulus = cells::cell(query, 0);
     let count = cells::cell(query, 1);
     Sequence {
-        modulus: modulus,
-        count: count,
-        terms: terms,
+        modulus,
+        count,
+        terms,
     }
 }
 
-// The sequence of a query, with the query's first refusal among 5, 1, 2, 3, 4. A query of another length writes none down: zeros.
-pub fn check(query: &[u8]) -> Checked
+// The sequence that any query writes down, whatever is wrong with it. A query of another length writes none down: zeros.
+pub fn loaded(query: &[u8]) -> Sequence
+    ensures { result ≡ loaded_of query.now }
+{
+    if query.len() != QUERY_BYTES {
+        return fresh(0);
+    }
+    load(query)
+}
+
+// The sequence of a query, or the query's first refusal among 5, 1, 2, 3, 4.
+pub fn check(query: &[u8]) -> Result<Sequence, Refusal>
     ensures { result ≡ checked_of query.now }
 {
     if query.len() != QUERY_BYTES {
-        let zeros = fresh(0);
-        return Checked {
-            sequence: zeros,
-            outcome: Outcome::Refused(Refusal::Buffer),
-        };
+        return Err(Refusal::Buffer);
     }
     let s = load(query);
-    let o = inspect(s);
-    Checked {
-        sequence: s,
-        outcome: o,
-    }
+    inspect(s)?;
+    Ok(s)
 }
 
 // The paper's number of a refusal.
@@ -334,15 +300,15 @@ pub fn number(r: Refusal) -> u64
 }
 
 // The place that a refusal carries.
-pub fn place_of(r: Refusal) -> Place
+pub fn place_of(r: Refusal) -> Option<usize>
     ensures { placed result ≡ (refusal r).values }
 {
     match r {
-        Refusal::Term(i) => Place::At(i as usize),
-        Refusal::LineForm(i) => Place::At(i),
-        Refusal::LineRange(i) => Place::At(i),
-        Refusal::TermsDisagree(i) => Place::At(i as usize),
-        _ => Place::Nowhere,
+        Refusal::Term(i) => Some(i as usize),
+        Refusal::LineForm(i) => Some(i),
+        Refusal::LineRange(i) => Some(i),
+        Refusal::TermsDisagree(i) => Some(i as usize),
+        _ => None,
     }
 }
 
@@ -355,30 +321,13 @@ pub fn solve(s: Sequence) -> Synthesis
     synthesis::synthesize(s.modulus, &terms, s.count as usize)
 }
 
-// Writes the coefficients of a as cells, and those of b: in a report, and in a record.
-fn write_a(a: &[u32; CELLS], out: &mut [u8])
-    requires { (length a.now ≡ max_cells) × (length out.old ≡ a_bytes) }
-    ensures { out.new ≡ bytes_of a.now }
-{
-    cells::write(out, a);
-}
-
-fn write_b(b: &[u32; TERMS], out: &mut [u8])
-    requires { (length b.now ≡ max_terms) × (length out.old ≡ b_bytes) }
-    ensures { out.new ≡ bytes_of b.now }
-{
-    cells::write(out, b);
-}
-
 // Writes a to 258 bytes and b to the 256 after them: how a register stands in a record.
 pub fn write_register(x: Synthesis, out: &mut [u8])
     requires { (length x.a ≡ max_cells) × (length x.b ≡ max_terms) × (length out.old ≡ register_bytes) }
     ensures { out.new ≡ bytes_of x.a ++ bytes_of x.b }
 {
-    let a = x.a;
-    let b = x.b;
-    write_a(&a, &mut out[0..A_BYTES]);
-    write_b(&b, &mut out[A_BYTES..REGISTER_BYTES]);
+    cells::write(&mut out[0..A_BYTES], &x.a);
+    cells::write(&mut out[A_BYTES..REGISTER_BYTES], &x.b);
 }
 
 // Whether a register of length l, the least for n terms, is the only one. Modulo a prime it is where 2l ≤ n (the crate counting).
@@ -396,109 +345,112 @@ fn uniqueness_of(prime: bool, n: u32, l: u32) -> Uniqueness
     Uniqueness::NotTold
 }
 
+// Writes the register found for n terms, a to 129 cells and b to 128, and tells what is reported of it.
+fn write_report(x: Synthesis, n: u32, a: &mut [u8], b: &mut [u8]) -> Report
+    requires { (length x.a ≡ max_cells) × (length x.b ≡ max_terms) × (x.length ≤ max_terms) × (length a.old ≡ a_bytes) × (length b.old ≡ b_bytes) }
+    ensures { (result.length ≡ x.length) × (result.uniqueness ≡ uniqueness_by x.prime n x.length)
+        × (a.new ≡ bytes_of x.a) × (b.new ≡ bytes_of x.b) }
+{
+    cells::write(a, &x.a);
+    cells::write(b, &x.b);
+    let uniqueness = uniqueness_of(x.prime, n, x.length);
+    Report {
+        length: x.length,
+        uniqueness,
+    }
+}
+
 // Writes the shortest register of the terms, a to 129 cells and b to 128, and replies its length and whether it is the only one.
 // Rejected: one that leaves the cells as lent; one that writes a = 1 for every sequence.
-pub fn register(s: Sequence, a: &mut [u8], b: &mut [u8]) -> Reported
+pub fn register(s: Sequence, a: &mut [u8], b: &mut [u8]) -> Result<Report, Refusal>
     ensures value { result ≡ report_of s a.old b.old }
-    ensures a_after { a.new ≡ written result (a_buffer s) a.old }
-    ensures b_after { b.new ≡ written result (b_buffer s) b.old }
+    ensures a_after { a.new ≡ filled result (a_buffer s) a.old }
+    ensures b_after { b.new ≡ filled result (b_buffer s) b.old }
     ensures result_value { reported_answer result ≡ report_answer s a.old b.old }
 {
     if a.len() != A_BYTES {
-        return Reported::Refused(Refusal::Buffer);
+        return Err(Refusal::Buffer);
     }
     if b.len() != B_BYTES {
-        return Reported::Refused(Refusal::Buffer);
+        return Err(Refusal::Buffer);
     }
     if is_sound(s) {
         let x = solve(s);
-        let xa = x.a;
-        let xb = x.b;
-        write_a(&xa, a);
-        write_b(&xb, b);
-        let w = uniqueness_of(x.prime, s.count, x.length);
-        return Reported::Length(x.length, w);
+        return Ok(write_report(x, s.count, a, b));
     }
-    Reported::Refused(Refusal::Sequence)
-}
-
-// What `work` gives where the call is refused.
-fn unworked(r: Refusal) -> Worked
-    ensures { result ≡ unworked r }
-{
-    Worked {
-        reply: Reported::Refused(r),
-        count: 0,
-    }
+    Err(Refusal::Sequence)
 }
 
 // All that `trace` does but storing the records, for a sheet of `room` records: they are words of the log.
-pub fn work(s: Sequence, a: &mut [u8], b: &mut [u8], room: usize, log: &mut [u64; LOG]) -> Worked
+pub fn work(
+    s: Sequence,
+    a: &mut [u8],
+    b: &mut [u8],
+    room: usize,
+    log: &mut [u64; LOG],
+) -> Result<Worked, Refusal>
     requires { length log.old ≡ log_words }
     ensures { (result ≡ work_of s a.old b.old room)
-        × (a.new ≡ written result.reply (a_buffer s) a.old)
-        × (b.new ≡ written result.reply (b_buffer s) b.old)
-        × (log.new ≡ sheet_filled result.reply (words_of s) log.old) }
+        × (a.new ≡ filled result (a_buffer s) a.old)
+        × (b.new ≡ filled result (b_buffer s) b.old)
+        × (log.new ≡ sheet_filled result (words_of s) log.old) }
 {
     if a.len() != A_BYTES {
-        return unworked(Refusal::Buffer);
+        return Err(Refusal::Buffer);
     }
     if b.len() != B_BYTES {
-        return unworked(Refusal::Buffer);
+        return Err(Refusal::Buffer);
     }
     if is_sound(s) {
         let n = s.count as usize;
         let count = n * synthesis::count_rows(s.modulus);
         if room < count {
-            return unworked(Refusal::Buffer);
+            return Err(Refusal::Buffer);
         }
         let x = synthesis::trace(s.modulus, &s.terms, n, log);
-        write_a(&x.a, a);
-        write_b(&x.b, b);
-        let w = uniqueness_of(x.prime, s.count, x.length);
-        return Worked {
-            reply: Reported::Length(x.length, w),
-            count: count,
-        };
+        let report = write_report(x, s.count, a, b);
+        return Ok(Worked { report, count });
     }
-    unworked(Refusal::Sequence)
+    Err(Refusal::Sequence)
 }
 
 // Does what `register` does, and fills a sheet with the working: one record for each row at each step, primes rising, then k, then the
 // row. Only this function holds the slice of structs.
 // Rejected: one that tells the length after the step; one that takes a sheet with one record too few; one that writes past the last record.
-pub fn trace(s: Sequence, a: &mut [u8], b: &mut [u8], sheet: &mut [StepRecord]) -> Reported
+pub fn trace(
+    s: Sequence,
+    a: &mut [u8],
+    b: &mut [u8],
+    sheet: &mut [StepRecord],
+) -> Result<Report, Refusal>
     ensures { (result ≡ trace_of s a.old b.old (length sheet.old))
-        × (a.new ≡ written result (a_buffer s) a.old)
-        × (b.new ≡ written result (b_buffer s) b.old)
+        × (a.new ≡ filled result (a_buffer s) a.old)
+        × (b.new ≡ filled result (b_buffer s) b.old)
         × (sheet.new ≡ sheet_filled result (records_of s) sheet.old)
         × (reported_answer result ≡ trace_answer s a.old b.old (length sheet.old)) }
 {
     let mut log = [0u64; LOG];
-    let w = work(s, a, b, sheet.len(), &mut log);
-    let mut i: usize = 0;
-    while i < w.count {
+    let w = work(s, a, b, sheet.len(), &mut log)?;
+    for i in 0..w.count {
         sheet[i] = steps::entry(&log, i);
-        i += 1;
     }
-    w.reply
+    Ok(w.report)
 }
 
 // Writes the linear complexity of the first 0, 1, .. terms to 129 cells, zero past the count.
 // Rejected: one that writes n for every length; one that leaves the cell of the last term out.
-pub fn profile(s: Sequence, cells: &mut [u8]) -> Outcome
+pub fn profile(s: Sequence, cells: &mut [u8]) -> Result<(), Refusal>
     ensures value { result ≡ profile_of s cells.old }
     ensures cells_after { cells.new ≡ filled result (profile_buffer s) cells.old }
     ensures result_value { outcome_answer result ≡ profile_answer s cells.old }
 {
     if cells.len() != PROFILE_BYTES {
-        return Outcome::Refused(Refusal::Buffer);
+        return Err(Refusal::Buffer);
     }
     if is_sound(s) {
         let x = solve(s);
-        let lengths = x.lengths;
-        cells::write(cells, &lengths);
-        return Outcome::Done;
+        cells::write(cells, &x.lengths);
+        return Ok(());
     }
-    Outcome::Refused(Refusal::Sequence)
+    Err(Refusal::Sequence)
 }

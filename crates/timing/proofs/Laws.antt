@@ -10,6 +10,7 @@ use lib.Dec.{leb}
 use lib.ListN.{length, drop}
 use lib.Seq.{drop-nil}
 use borrow.Author.Tests.{ltb-true, leb-true, le-leb, lt-leb}
+use Rattle.std.specs.Prelude.{Err}
 use Rattle.lists.specs.Choice.{pick}
 use Rattle.lists.specs.Sum.{sum_to}
 use Rattle.lists.specs.Table.{at, tabulate}
@@ -24,14 +25,13 @@ use Rattle.steps.specs.Log.{unpacked}
 use Rattle.steps.specs.Run.{Below, Result}
 use Rattle.synthesis.proofs.Gathering.{ring_of}
 use Rattle.sequence.specs.declared.Sequence.{Sequence}
-use Rattle.sequence.specs.declared.Reported.{Reported}
-use Rattle.sequence.specs.declared.Reported.TheVariants as P
 use Rattle.sequence.specs.declared.Worked.{Worked}
 use Rattle.sequence.specs.Rules.{outside}
 use Rattle.sequence.specs.Trace.{records_of, sheet_filled, words_of, work_of}
 use Rattle.sequence.proofs.Laws.{inside}
 use Rattle.sequence.proofs.Tracing.{zeros, entry_of, filling_all}
 use Rattle.timing.specs.Entries.{low, fits, row_of, row_cells, row_lengths, numbers_of, all_numbers, sum_of}
+use Rattle.sequence.specs.Answers.{Reported, of_length}
 
 -- what the test of the inputs says
 pub record Fit (m n : ℕ) (S : List ℕ) : Type 0 where
@@ -90,5 +90,5 @@ sum_told s a b n y e log w =
     ∙ go y.reply
   where
     go : (r : Reported) → all_numbers (sheet_filled r (records_of s) []) ≡ sum_of r s
-    go (P.Length l w) = ap all_numbers (bare (records_of s) (length (records_of s)))
-    go (P.Refused r) = refl
+    go (of_length l w) = ap all_numbers (bare (records_of s) (length (records_of s)))
+    go (Err r) = refl

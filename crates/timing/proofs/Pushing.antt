@@ -5,16 +5,16 @@ use mathlib.Core.List.{List, ◌∷◌}
 use Prim.Native.Nat.{ℕ, suc, ◌+◌, ◌/◌, ◌≤◌, ◌<◌}
 use native.Mathlib.Omega.{arith}
 use lib.ListN.{length, drop, drop_of_length-le}
+use Rattle.std.specs.Prelude.{Ok, Err}
 use Rattle.cells.specs.Cell.{cell_at}
 use Rattle.sequence.specs.declared.Sequence.{Sequence}
 use Rattle.sequence.specs.declared.Refusal.{Refusal}
-use Rattle.sequence.specs.declared.Outcome.{Outcome}
-use Rattle.sequence.specs.declared.Outcome.TheVariants.{Done, Refused}
 use Rattle.sequence.specs.declared.Pushed.{Pushed}
 use Rattle.sequence.specs.Rules.{push_of}
 use Rattle.column.specs.declared.PushedAll.{PushedAll}
 use Rattle.column.specs.Rules.{terms_in, onward, each_of}
 use Rattle.column.proofs.Laws.{how_many, next, each_none, each_push}
+use Rattle.sequence.specs.Answers.{Outcome}
 
 -- i terms were taken, and s is the sequence then
 pub record Pushing (list : List ℕ) (whole : Sequence) (i : ℕ) (s : Sequence) : Type 0 where
@@ -35,15 +35,15 @@ module _ {list : List ℕ} {whole : Sequence} {i : ℕ} {s : Sequence} (f : Push
       ∙ ap (λ (q : Pushed). (onward q.outcome q.sequence (each_of q.sequence (drop (suc i) (terms_in list)))).sequence) (sym hp)
       ∙ ap (λ (x : Outcome). (onward x p.sequence (each_of p.sequence (drop (suc i) (terms_in list)))).sequence) ho
 
-  pub pushing_more : (p : Pushed) (t : ℕ) → i < length list / 2 → t ≡ cell_at list i → p ≡ push_of s t → p.outcome ≡ Done → Pushing list whole (i + 1) p.sequence
+  pub pushing_more : (p : Pushed) (t : ℕ) → i < length list / 2 → t ≡ cell_at list i → p ≡ push_of s t → p.outcome ≡ Ok tt → Pushing list whole (i + 1) p.sequence
   pushing_more p t h e hp ho =
       record {
         within = omega arith;
-        left = pushed p t Done h e hp ho ∙ ap (λ (k : ℕ). (each_of p.sequence (drop k (terms_in list))).sequence) (let q : suc i ≡ i + 1 = omega arith in q);
+        left = pushed p t (Ok tt) h e hp ho ∙ ap (λ (k : ℕ). (each_of p.sequence (drop k (terms_in list))).sequence) (let q : suc i ≡ i + 1 = omega arith in q);
       }
 
-  pub pushing_refused : (p : Pushed) (t : ℕ) (r : Refusal) → i < length list / 2 → t ≡ cell_at list i → p ≡ push_of s t → p.outcome ≡ Refused r → p.sequence ≡ whole
-  pushing_refused p t r h e hp ho = sym (pushed p t (Refused r) h e hp ho)
+  pub pushing_refused : (p : Pushed) (t : ℕ) (r : Refusal) → i < length list / 2 → t ≡ cell_at list i → p ≡ push_of s t → p.outcome ≡ Err r → p.sequence ≡ whole
+  pushing_refused p t r h e hp ho = sym (pushed p t (Err r) h e hp ho)
 
   pub pushing_all : length list / 2 ≤ i → s ≡ whole
   pushing_all h =

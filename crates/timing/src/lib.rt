@@ -10,7 +10,7 @@ ghost use Rattle.steps.specs.Sizes.{log_words};
 ghost use Rattle.steps.specs.Log.{unpacked};
 ghost use Rattle.sequence.specs.Answers.{uniqueness};
 ghost use Rattle.sequence.specs.Rules.{open_of};
-ghost use Rattle.sequence.specs.Report.{report_of, written, a_buffer, b_buffer};
+ghost use Rattle.sequence.specs.Report.{report_of, filled, a_buffer, b_buffer};
 ghost use Rattle.sequence.specs.Trace.{trace_of};
 ghost use Rattle.column.specs.Rules.{terms_in, each_of, push_all_of};
 ghost use Rattle.timing.specs.Entries.{low, fits, row_cells, row_lengths, given, replied_by, numbers_of, sum_of};
@@ -97,9 +97,9 @@ pub extern "C" fn timing_register(
     b: &mut [u8],
 ) -> u64
     ensures value { result ≡ replied_by (report_of (given m count terms.now) a.old b.old) }
-    ensures a_after { a.new ≡ written (report_of (given m count terms.now) a.old b.old)
+    ensures a_after { a.new ≡ filled (report_of (given m count terms.now) a.old b.old)
         (a_buffer (given m count terms.now)) a.old }
-    ensures b_after { b.new ≡ written (report_of (given m count terms.now) a.old b.old)
+    ensures b_after { b.new ≡ filled (report_of (given m count terms.now) a.old b.old)
         (b_buffer (given m count terms.now)) b.old }
 {
     let t = *terms;
@@ -150,9 +150,9 @@ pub extern "C" fn timing_trace(
 ) -> u64
     ensures value { result ≡ sum_of (trace_of (given m count terms.now) a.old b.old log_words)
         (given m count terms.now) }
-    ensures a_after { a.new ≡ written (trace_of (given m count terms.now) a.old b.old log_words)
+    ensures a_after { a.new ≡ filled (trace_of (given m count terms.now) a.old b.old log_words)
         (a_buffer (given m count terms.now)) a.old }
-    ensures b_after { b.new ≡ written (trace_of (given m count terms.now) a.old b.old log_words)
+    ensures b_after { b.new ≡ filled (trace_of (given m count terms.now) a.old b.old log_words)
         (b_buffer (given m count terms.now)) b.old }
 {
     let t = *terms;

@@ -1,8 +1,7 @@
 -- `batch::first_reply` meets its contract: each outcome goes to its number.
 -- Assumes nothing.
 use mathlib.Core.Path.{sym, ap, ◌∙◌}
-use Rattle.sequence.specs.declared.Outcome.{Outcome}
-use Rattle.sequence.specs.Answers.{outcome_answer}
+use Rattle.sequence.specs.Answers.{outcome_answer, Outcome}
 use Rattle.sequence.proofs.Laws.{checked}
 use Rattle.codes.specs.Codes.{code_of}
 use Rattle.batch.proofs.first_reply.Goals as goal

@@ -5,7 +5,7 @@ use native.Mathlib.Omega.{arith}
 use lib.Seq.{length-take-le}
 use borrow.Author.Rules.{rules}
 use Rattle.sequence.specs.Limits.{query_bytes}
-use Rattle.sequence.proofs.Report.{long_a, long_b}
+use Rattle.sequence.proofs.Reporting.{long_a, long_b}
 use Rattle.catalogue.proofs.Laws.{is_body}
 use Rattle.catalogue.proofs.write_body.Goals as goal
 

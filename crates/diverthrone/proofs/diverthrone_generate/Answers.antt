@@ -1,8 +1,7 @@
 -- `diverthrone_generate` meets its contract: each outcome goes to its number.
 -- Assumes nothing.
 use mathlib.Core.Path.{sym, ap, ◌∙◌}
-use Rattle.sequence.specs.Answers.{outcome_answer}
-use Rattle.sequence.specs.declared.Outcome.{Outcome}
+use Rattle.sequence.specs.Answers.{outcome_answer, Outcome}
 use Rattle.candidate.specs.Rules.{generated_in}
 use Rattle.codes.specs.Codes.{code_of}
 use Rattle.diverthrone.proofs.diverthrone_generate.Goals as goal

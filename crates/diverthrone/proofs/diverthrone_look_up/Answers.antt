@@ -2,8 +2,7 @@
 -- Assumes nothing.
 use mathlib.Core.Path.{sym, ap, ◌∙◌}
 use native.Mathlib.Omega.{arith}
-use Rattle.catalogue.specs.declared.LookedUp.{LookedUp}
-use Rattle.catalogue.specs.Rules.{looked_up_answer, served_in}
+use Rattle.catalogue.specs.Rules.{looked_up_answer, served_in, LookedUp}
 use Rattle.catalogue.proofs.Laws.{found_below}
 use Rattle.codes.specs.Codes.{code_of}
 use Rattle.codes.proofs.Laws.{valued}

@@ -1,8 +1,7 @@
 -- `diverthrone_merge` meets its contract: each outcome goes to its number.
 -- Assumes nothing.
 use mathlib.Core.Path.{sym, ap, ◌∙◌}
-use Rattle.sequence.specs.Answers.{outcome_answer}
-use Rattle.sequence.specs.declared.Outcome.{Outcome}
+use Rattle.sequence.specs.Answers.{outcome_answer, Outcome}
 use Rattle.merge.specs.Rules.{merged_in}
 use Rattle.codes.specs.Codes.{code_of}
 use Rattle.diverthrone.proofs.diverthrone_merge.Goals as goal

@@ -1,8 +1,7 @@
 -- `diverthrone_period_length` meets its contract: a length is told as it is, a refusal by its number.
 -- Assumes nothing.
 use mathlib.Core.Path.{sym, ap, ◌∙◌}
-use Rattle.period.specs.declared.Measured.{Measured}
-use Rattle.period.specs.Rules.{measured_answer}
+use Rattle.period.specs.Rules.{measured_answer, Measured}
 use Rattle.codes.specs.Codes.{length_code_of}
 use Rattle.codes.proofs.Laws.{length_valued, length_refused}
 use Rattle.diverthrone.proofs.diverthrone_period_length.Goals as goal

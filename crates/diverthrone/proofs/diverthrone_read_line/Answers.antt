@@ -1,8 +1,7 @@
 -- `diverthrone_read_line` meets its contract: each outcome goes to its number.
 -- Assumes nothing.
 use mathlib.Core.Path.{sym, ap, ◌∙◌}
-use Rattle.sequence.specs.Answers.{outcome_answer}
-use Rattle.sequence.specs.declared.Outcome.{Outcome}
+use Rattle.sequence.specs.Answers.{outcome_answer, Outcome}
 use Rattle.sequence.specs.Report.{filled}
 use Rattle.lines.specs.Reading.{found_in}
 use Rattle.lines.specs.Reply.{query_in}

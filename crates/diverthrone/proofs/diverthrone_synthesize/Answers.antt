@@ -1,8 +1,7 @@
 -- `diverthrone_synthesize` meets its contract: each outcome goes to its number.
 -- Assumes nothing.
 use mathlib.Core.Path.{sym, ap, ◌∙◌}
-use Rattle.sequence.specs.Answers.{outcome_answer}
-use Rattle.sequence.specs.declared.Outcome.{Outcome}
+use Rattle.sequence.specs.Answers.{outcome_answer, Outcome}
 use Rattle.sequence.specs.Report.{filled}
 use Rattle.catalogue.specs.Rules.{record_of}
 use Rattle.codes.specs.Codes.{code_of}

@@ -1,8 +1,7 @@
 -- `diverthrone_verify` meets its contract: each verdict goes to its number.
 -- Assumes nothing.
 use mathlib.Core.Path.{sym, ap, ◌∙◌}
-use Rattle.candidate.specs.declared.Verdict.{Verdict}
-use Rattle.candidate.specs.Rules.{verdict_answer}
+use Rattle.candidate.specs.Rules.{verdict_answer, Verdict}
 use Rattle.codes.specs.Codes.{code_of}
 use Rattle.codes.proofs.Laws.{valued}
 use Rattle.diverthrone.proofs.diverthrone_verify.Goals as goal

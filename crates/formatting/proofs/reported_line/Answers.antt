@@ -1,10 +1,10 @@
 -- `formatting::reported_line` meets its contract.
 -- Assumes nothing.
 use mathlib.Core.Path.{sym, ap}
-use Rattle.sequence.specs.declared.Reported.{Reported}
 use Rattle.formatting.specs.Listing.{reported_line}
 use Rattle.formatting.proofs.Putting.{put_as}
 use Rattle.formatting.proofs.reported_line.Goals as goal
+use Rattle.sequence.specs.Answers.{Reported}
 
 pub returns-in-Refused : goal.returns-in-Refused
 returns-in-Refused c =

@@ -4,7 +4,7 @@ use mathlib.Core.Path.{refl, sym, ap, ◌∙◌}
 use Prim.Native.Nat.{◌≤◌, ◌<◌}
 use native.Mathlib.Omega.{arith}
 use lib.ListN.{length}
-use Rattle.lines.specs.declared.Scanned.TheVariants.{Read}
+use Rattle.std.specs.Prelude.{Ok}
 use Rattle.lines.specs.Scan.{scanned_of}
 use Rattle.lines.proofs.Signs.{limit_most}
 use Rattle.lines.proofs.Scanning.{scanning_start, length_array, scanning_broken, scanning_past, scanning_next, scanning_cut, scanning_end, end_count, end_array, keeps_read, keeps_broken, keeps_past}
@@ -50,7 +50,7 @@ pub returns-then-may_end : goal.returns-then-may_end
 returns-then-may_end c =
     let h : length c.args.line.now ≤ c.loop-i.i = omega arith in
     let e = scanning_end c.loop-i.invariant h (sym c.may_end.ensures ∙ c.if-may_end.true) in
-    record { value = ap (Read c.loop-i.c.modulus) (end_count c.loop-i.invariant h _ c.end_term-count.ensures.0) ∙ sym (ap scanned_of e); kept = keeps_read e (end_array c.loop-i.invariant h _ c.end_term-count.ensures.1) }
+    record { value = ap ((λ x y. Ok (x, y)) c.loop-i.c.modulus) (end_count c.loop-i.invariant h _ c.end_term-count.ensures.0) ∙ sym (ap scanned_of e); kept = keeps_read e (end_array c.loop-i.invariant h _ c.end_term-count.ensures.1) }
 
 pub returns : goal.returns
 returns c =

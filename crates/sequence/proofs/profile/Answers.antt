@@ -9,7 +9,7 @@ use Rattle.synthesis.specs.Synthesis.{synthesis_of}
 use Rattle.sequence.specs.Report.{profile_of}
 use Rattle.sequence.proofs.Laws.{sound_of}
 use Rattle.sequence.proofs.Answers.{profile_told}
-use Rattle.sequence.proofs.Report.{long_a, long_lengths}
+use Rattle.sequence.proofs.Reporting.{long_a, long_lengths}
 use Rattle.sequence.proofs.profile.Goals as goal
 
 pub returns-then-cells-ne-PROFILE_BYTES : goal.returns-then-cells-ne-PROFILE_BYTES

@@ -1,6 +1,6 @@
 -- `sequence::solve` meets its contract.
 -- Assumes nothing.
-use Rattle.sequence.proofs.Report.{small_terms}
+use Rattle.sequence.proofs.Reporting.{small_terms}
 use native.Mathlib.Omega.{arith}
 use Rattle.sequence.proofs.solve.Goals as goal
 

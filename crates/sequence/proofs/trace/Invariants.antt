@@ -1,12 +1,8 @@
 -- The loop of `sequence::trace` has stored the records of the log's first i words.
 -- Assumes nothing.
 use mathlib.Core.Path.{◌≡◌}
-use Prim.Native.Nat.{◌-◌, ◌≤◌}
 use Rattle.sequence.proofs.Tracing.{filling_of}
 use Rattle.sequence.proofs.trace.Given as goal
 
 abbrev pub invariant-loop-i : goal.invariant-loop-i
-invariant-loop-i l = record { filled : l.sheet ≡ filling_of l.log l.initial.sheet l.i; within : l.i ≤ l.w.count }
-
-abbrev pub decreases-loop-i : goal.decreases-loop-i
-decreases-loop-i l = l.w.count - l.i
+invariant-loop-i l = l.sheet ≡ filling_of l.log l.initial.sheet l.i

@@ -1,6 +1,5 @@
 -- `sequence::work` meets its contract.
 -- Assumes nothing.
-use borrow.Author.Rules.{rules}
 use mathlib.Core.Path.{◌≡◌, refl, sym, ap, ◌∙◌}
 use Prim.Native.Nat.{ℕ, ◌*◌}
 use native.Mathlib.Nat.{mul-le-mul}
@@ -12,7 +11,7 @@ use Rattle.synthesis.specs.Synthesis.{synthesis_of}
 use Rattle.sequence.specs.Trace.{sheet_size, trace_of}
 use Rattle.sequence.specs.Rules.{IsSound}
 use Rattle.sequence.proofs.Laws.{sound_of}
-use Rattle.sequence.proofs.Report.{long_a, long_b, small_terms, short_length, told}
+use Rattle.sequence.proofs.Reporting.{long_a, long_b, small_terms, short_length, told}
 use Rattle.sequence.proofs.Tracing.{work_refused, work_done, log_filled}
 use Rattle.sequence.proofs.work.Goals as goal
 
@@ -20,13 +19,13 @@ pub returns-then-a-ne-A_BYTES : goal.returns-then-a-ne-A_BYTES
 unfolding trace_of
 returns-then-a-ne-A_BYTES c =
     let v = c.args in
-    work_refused v.s v.a.now v.b.now v.room v.log.now c.unworked.ensures (rw (ne_eqb _ _ c.if-a-ne-A_BYTES.true) refl)
+    work_refused v.s v.a.now v.b.now v.room v.log.now (rw (ne_eqb _ _ c.if-a-ne-A_BYTES.true) refl)
 
 pub returns-then-b-ne-B_BYTES : goal.returns-then-b-ne-B_BYTES
 unfolding trace_of
 returns-then-b-ne-B_BYTES c =
     let v = c.args in
-    work_refused v.s v.a.now v.b.now v.room v.log.now c.unworked-then-b-ne-B_BYTES.ensures (rw (eq-eqb _ _ c.if-a-ne-A_BYTES.false, ne_eqb _ _ c.if-b-ne-B_BYTES.true) refl)
+    work_refused v.s v.a.now v.b.now v.room v.log.now (rw (eq-eqb _ _ c.if-a-ne-A_BYTES.false, ne_eqb _ _ c.if-b-ne-B_BYTES.true) refl)
 
 pub count_rows-requires : goal.count_rows-requires
 count_rows-requires c =
@@ -43,7 +42,7 @@ unfolding trace_of
 returns-then-room-count c =
     let v = c.args in
     let size : v.s.count * c.count_rows.result ≡ sheet_size v.s = ap (λ (k : ℕ). v.s.count * k) c.count_rows.ensures.0 in
-    work_refused v.s v.a.now v.b.now v.room v.log.now c.unworked-then-room-count.ensures
+    work_refused v.s v.a.now v.b.now v.room v.log.now
     (rw (eq-eqb _ _ c.if-a-ne-A_BYTES.false, eq-eqb _ _ c.if-b-ne-B_BYTES.false, ← c.is_sound.ensures, c.if-is_sound.true, lt-leb (sheet_size v.s) v.room (omega (arith, size, c.if-room-count.true))) refl)
 
 pub trace-x-requires : goal.trace-x-requires
@@ -51,15 +50,11 @@ trace-x-requires c =
     let h : IsSound c.args.s = sound_of _ (sym c.is_sound.ensures ∙ c.if-is_sound.true) in
     (h.least, omega (arith, h.most), h.count, small_terms c.args.s h)
 
-pub write_a-requires : goal.write_a-requires
-write_a-requires c = (long_a _ c.args.s c.trace-x.ensures.0, search rules)
-
-pub write_b-requires : goal.write_b-requires
-write_b-requires c = (long_b _ c.args.s c.trace-x.ensures.0, search rules)
-
-pub uniqueness_of-w-requires : goal.uniqueness_of-w-requires
-uniqueness_of-w-requires c =
-    short_length _ c.args.s c.trace-x.ensures.0 (sound_of _ (sym c.is_sound.ensures ∙ c.if-is_sound.true))
+pub write_report-report-requires : goal.write_report-report-requires
+write_report-report-requires c =
+    let s = c.args.s in
+    let x = c.trace-x.ensures.0 in
+    (long_a _ s x, long_b _ s x, short_length _ s x (sound_of _ (sym c.is_sound.ensures ∙ c.if-is_sound.true)), c.if-a-ne-A_BYTES.false, c.if-b-ne-B_BYTES.false)
 
 pub returns-then-is_sound : goal.returns-then-is_sound
 unfolding trace_of synthesis_of
@@ -68,12 +63,13 @@ returns-then-is_sound c =
     let sound = c.is_sound.ensures in
     let h : IsSound v.s = sound_of _ (sym sound ∙ c.if-is_sound.true) in
     let x = c.trace-x.ensures in
+    let r = c.write_report-report.ensures in
     let size : v.s.count * c.count_rows.result ≡ sheet_size v.s = ap (λ (k : ℕ). v.s.count * k) c.count_rows.ensures.0 in (
-      work_done v.s v.a.now v.b.now v.room _ _ _
+      work_done v.s v.a.now v.b.now v.room _ _
           (rw (eq-eqb _ _ c.if-a-ne-A_BYTES.false, eq-eqb _ _ c.if-b-ne-B_BYTES.false, ← sound, c.if-is_sound.true, le-leb (sheet_size v.s) v.room (omega (arith, size, c.if-room-count.false)))
-          (sym (told _ v.s x.0 _ c.uniqueness_of-w.ensures))) size,
-      c.write_a.ensures ∙ ap (λ (y : Synthesis). bytes_of y.a) x.0,
-      c.write_b.ensures ∙ ap (λ (y : Synthesis). bytes_of y.b) x.0,
+          (sym (told _ v.s x.0 _ r.0 r.1))) size,
+      r.2 ∙ ap (λ (y : Synthesis). bytes_of y.a) x.0,
+      r.3 ∙ ap (λ (y : Synthesis). bytes_of y.b) x.0,
       x.1 ∙ log_filled v.s v.log.now h c.requires,
     )
 
@@ -81,5 +77,5 @@ pub returns : goal.returns
 unfolding trace_of
 returns c =
     let v = c.args in
-    work_refused v.s v.a.now v.b.now v.room v.log.now c.unworked-2.ensures
+    work_refused v.s v.a.now v.b.now v.room v.log.now
     (rw (eq-eqb _ _ c.if-a-ne-A_BYTES.false, eq-eqb _ _ c.if-b-ne-B_BYTES.false, ← c.is_sound.ensures, c.if-is_sound.false) refl)

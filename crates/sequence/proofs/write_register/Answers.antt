@@ -9,12 +9,12 @@ use borrow.Rule.Slice.PartMut.{put_mid}
 use Rattle.cells.specs.Cell.{bytes_of}
 use Rattle.cells.proofs.Laws.{length_bytes_of}
 use Rattle.sequence.specs.Limits.{a_bytes, b_bytes}
-use Rattle.sequence.proofs.Report.{two_parts}
+use Rattle.sequence.proofs.Reporting.{two_parts}
 use Rattle.sequence.proofs.write_register.Goals as goal
 
 pub returns : goal.returns
 returns c =
-    let first = c.write_a in
-    let second = c.write_b in
+    let first = c.write in
+    let second = c.write-2 in
     ap₂ (λ (x y : List ℕ). put_mid a_bytes b_bytes (x ++ drop a_bytes c.args.out.now) y) first.ensures second.ensures
     ∙ two_parts (bytes_of c.args.x.a) (bytes_of c.args.x.b) c.args.out.now (omega (arith, length_bytes_of c.args.x.a, c.requires.0)) c.requires.2

@@ -8,6 +8,7 @@ use native.Mathlib.Omega.{arith}
 use lib.ListN.{length, drop, length-drop, drop_of_length-le}
 use lib.Seq.{take_at, drop_at}
 use borrow.Rule.Slice.PartMut.{put_mid}
+use Rattle.std.specs.Prelude.{Ok}
 use Rattle.lists.specs.Table.{at}
 use Rattle.lists.proofs.Table.{length_tabulate}
 use Rattle.lists.proofs.Search.{lt_or_le}
@@ -16,10 +17,10 @@ use Rattle.synthesis.specs.declared.Synthesis.{Synthesis}
 use Rattle.synthesis.specs.Synthesis.{synthesis_of}
 use Rattle.sequence.specs.Limits.{max_cells, max_terms, a_bytes, b_bytes, register_bytes}
 use Rattle.sequence.specs.declared.Sequence.{Sequence}
-use Rattle.sequence.specs.declared.Uniqueness.{Uniqueness}
-use Rattle.sequence.specs.declared.Reported.TheVariants.{Length}
+use Rattle.sequence.specs.declared.Report.{Report}
 use Rattle.sequence.specs.Rules.{IsSound}
 use Rattle.sequence.specs.Report.{uniqueness_by, register_told}
+use Rattle.sequence.specs.Answers.{of_length}
 
 module _ (x : Synthesis) (s : Sequence) (h : x ≡ synthesis_of s.modulus s.terms s.count) where
   pub long_a : length x.a ≡ max_cells
@@ -38,10 +39,10 @@ module _ (x : Synthesis) (s : Sequence) (h : x ≡ synthesis_of s.modulus s.term
   unfolding synthesis_of
   short_length f = omega (arith, ap (λ (z : Synthesis). z.length) h, (register_right s.modulus f.least s.terms s.count).short, f.count)
 
-  -- what is replied
-  pub told : (w : Uniqueness) → w ≡ uniqueness_by x.prime s.count x.length → Length x.length w ≡ register_told s
+  -- what is reported
+  pub told : (r : Report) → r.length ≡ x.length → r.uniqueness ≡ uniqueness_by x.prime s.count x.length → Ok r ≡ register_told s
   unfolding synthesis_of
-  told w e = ap (Length x.length) e ∙ ap (λ (z : Synthesis). Length z.length (uniqueness_by z.prime s.count z.length)) h
+  told r k w = ap₂ of_length k w ∙ ap (λ (z : Synthesis). of_length z.length (uniqueness_by z.prime s.count z.length)) h
 
 -- every cell of a sound sequence is small
 pub small_terms : (s : Sequence) → IsSound s → (i : ℕ) → i < max_terms → at s.terms i < 65536
