@@ -18,9 +18,8 @@ use Rattle.cells.specs.Cell.{cell_at}
 use Rattle.cells.proofs.Laws.{at_cells}
 use Rattle.sequence.specs.declared.Sequence.{Sequence}
 use Rattle.sequence.specs.declared.Refusal.TheVariants as R
-use Rattle.sequence.specs.declared.Pushed.{Pushed}
 use Rattle.sequence.specs.Limits.{max_terms}
-use Rattle.sequence.specs.Rules.{IsSound, fault_of, is_sound, longer, push_of}
+use Rattle.sequence.specs.Rules.{IsSound, fault_of, is_sound, longer, push_of, Pushed}
 use Rattle.sequence.proofs.Laws.{is_sound_lem, push_done, push_full, push_large, sound_longer}
 use Rattle.column.specs.declared.PushedAll.{PushedAll}
 use Rattle.column.specs.Rules.{terms_in, took, onward, each_of, push_all_of}

@@ -9,9 +9,8 @@ use lib.ListN.{length, take}
 use lib.Seq.{take-suc, take_all}
 use Rattle.lists.specs.Table.{at}
 use Rattle.sequence.specs.declared.Sequence.{Sequence}
-use Rattle.sequence.specs.declared.Pushed.{Pushed}
 use Rattle.sequence.specs.Limits.{max_modulus, a_bytes, b_bytes, profile_bytes}
-use Rattle.sequence.specs.Rules.{open_of, push_of}
+use Rattle.sequence.specs.Rules.{open_of, push_of, Pushed}
 use Rattle.sequence.specs.Report.{report_of, a_buffer, b_buffer, profile_of, profile_buffer, filled}
 use Rattle.column.specs.declared.PushedAll.{PushedAll}
 use Rattle.column.specs.Rules.{push_all_of}

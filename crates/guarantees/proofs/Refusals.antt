@@ -16,10 +16,9 @@ use Rattle.cells.specs.Cell.{cell_at}
 use Rattle.sequence.specs.declared.Sequence.{Sequence}
 use Rattle.sequence.specs.declared.Refusal.{Refusal}
 use Rattle.sequence.specs.declared.Refusal.TheVariants as R
-use Rattle.sequence.specs.declared.Pushed.{Pushed}
 use Rattle.sequence.specs.Limits.{max_modulus, max_terms, query_bytes, a_bytes, b_bytes}
 use Rattle.sequence.specs.Answers.{refused, refusal, Outcome}
-use Rattle.sequence.specs.Rules.{IsSound, open_of, push_of, sequence_of, check_of}
+use Rattle.sequence.specs.Rules.{IsSound, open_of, push_of, sequence_of, check_of, Pushed}
 use Rattle.sequence.proofs.Laws.{term_cell, TermAt, term_check, check_term, check_small, check_done, done_check, same_number, refused_done, Push, unsound, full, large, done, pushing, push_large, sound_of}
 use Rattle.candidate.specs.Rules.{a_cells, b_cells, flaw_of, IsFine, verify_of, generate_of}
 use Rattle.candidate.proofs.Laws.{Found, long, coefficient, lead, fine, found}

@@ -19,9 +19,8 @@ use Rattle.lists.specs.Table.{at}
 use Rattle.lists.proofs.Search.{lt_or_le}
 use Rattle.sequence.specs.declared.Sequence.{Sequence}
 use Rattle.sequence.specs.declared.Opened.{Opened}
-use Rattle.sequence.specs.declared.Pushed.{Pushed}
 use Rattle.sequence.specs.Limits.{max_modulus, max_terms}
-use Rattle.sequence.specs.Rules.{open_of, push_of, fault_of, is_sound, IsSound}
+use Rattle.sequence.specs.Rules.{open_of, push_of, fault_of, is_sound, IsSound, Pushed}
 use Rattle.sequence.proofs.Laws.{is_sound_lem, open_done, push_done, push_full, push_large}
 use Rattle.column.specs.declared.PushedAll.{PushedAll}
 use Rattle.column.specs.Rules.{terms_in, took, onward, each_of, push_all_of}

@@ -11,10 +11,9 @@ use Rattle.lists.specs.Choice.{pick}
 use Rattle.sequence.specs.declared.Sequence.{Sequence}
 use Rattle.sequence.specs.declared.Refusal.TheVariants as R
 use Rattle.sequence.specs.declared.Opened.{Opened}
-use Rattle.sequence.specs.declared.Pushed.{Pushed}
 use Rattle.sequence.specs.Limits.{max_terms, query_bytes, a_bytes, b_bytes, profile_bytes}
 use Rattle.sequence.specs.Answers.{Answer, granted, refused, refused_at, refusal, outcome_answer, reported_answer, first_of, Outcome, Reported}
-use Rattle.sequence.specs.Rules.{outside, first_large, zero_from, fault_of, is_sound, fresh, open_of, open_answer, longer, push_of, push_answer, sequence_of, check_of, query_refusals}
+use Rattle.sequence.specs.Rules.{outside, first_large, zero_from, fault_of, is_sound, fresh, open_of, open_answer, longer, push_of, push_answer, sequence_of, check_of, query_refusals, Pushed}
 use Rattle.sequence.specs.Report.{register_told, register_answer, report_of, report_answer, profile_of, profile_answer}
 
 -- ---- the calls that hold a sequence
@@ -35,9 +34,15 @@ open_told m e = record { value = e; outcome_value = ap (λ (x : Opened). outcome
     go true = refl
     go false = refl
 
-pub push_told : (s : Sequence) (t : ℕ) {r : Pushed} → r ≡ push_of s t → record { value : r ≡ push_of s t; outcome_value : outcome_answer r.outcome ≡ push_answer s t }
+pub push_told : (s : Sequence) (t : ℕ) {r : Outcome} {s' : Sequence} → record { sequence = s'; outcome = r } ≡ push_of s t
+    → record { value : r ≡ (push_of s t).outcome; self_after : s' ≡ (push_of s t).sequence; result_value : outcome_answer r ≡ push_answer s t }
 unfolding push_of first_of
-push_told s t e = record { value = e; outcome_value = ap (λ (x : Pushed). outcome_answer x.outcome) e ∙ go (is_sound (fault_of s)) (eqb s.count max_terms) (leb s.modulus t) }
+push_told s t e =
+    record {
+      value = ap (λ (x : Pushed). x.outcome) e;
+      self_after = ap (λ (x : Pushed). x.sequence) e;
+      result_value = ap (λ (x : Pushed). outcome_answer x.outcome) e ∙ go (is_sound (fault_of s)) (eqb s.count max_terms) (leb s.modulus t);
+    }
   where
     with : Sequence → Outcome → Pushed
     with x o = record { sequence = x; outcome = o }

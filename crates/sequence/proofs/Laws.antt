@@ -22,10 +22,9 @@ use Rattle.cells.specs.Cell.{cell_at}
 use Rattle.sequence.specs.declared.Sequence.{Sequence}
 use Rattle.sequence.specs.declared.Refusal.{Refusal}
 use Rattle.sequence.specs.declared.Refusal.TheVariants as R
-use Rattle.sequence.specs.declared.Pushed.{Pushed}
 use Rattle.sequence.specs.Limits.{max_modulus, max_terms, query_bytes}
 use Rattle.sequence.specs.Answers.{refusal, outcome_answer, Outcome, and_then}
-use Rattle.sequence.specs.Rules.{outside, first_large, zero_from, fault_of, is_sound, IsSound, fresh, open_of, longer, push_of, sequence_of, check_of, checked_of}
+use Rattle.sequence.specs.Rules.{outside, first_large, zero_from, fault_of, is_sound, IsSound, fresh, open_of, longer, push_of, sequence_of, check_of, checked_of, Pushed}
 
 -- sequences are equal by their fields
 pub same : {m m' n n' : ℕ} {t t' : List ℕ} → m ≡ m' → n ≡ n' → t ≡ t' → ◌≡◌ {A = Sequence} (record { modulus = m; count = n; terms = t }) (record { modulus = m'; count = n'; terms = t' })

@@ -9,7 +9,6 @@ use Rattle.sequence.specs.declared.Sequence.{Sequence}
 use Rattle.sequence.specs.declared.Refusal.{Refusal}
 use Rattle.sequence.specs.declared.Refusal.TheVariants as R
 use Rattle.sequence.specs.declared.Opened.{Opened}
-use Rattle.sequence.specs.declared.Pushed.{Pushed}
 use Rattle.sequence.specs.Limits.{max_modulus, max_terms, query_bytes}
 use Rattle.sequence.specs.Answers.{Answer, granted, refused, refused_at, first_of, Outcome, and_then}
 
@@ -51,6 +50,11 @@ open_of m = pick (outside m) (record { sequence = fresh 0; outcome = Err R.Modul
 -- the same by number; so below for each call
 abbrev pub open_answer : ℕ → Answer
 open_answer m = first_of ((outside m, refused 1) ∷ []) (granted [])
+
+-- the sequence after a push, and its reply
+pub record Pushed : Type 0 where
+  pub sequence : Sequence
+  pub outcome : Outcome
 
 -- the sequence with one term more
 abbrev pub longer : Sequence → ℕ → Sequence

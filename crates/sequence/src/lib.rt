@@ -96,12 +96,6 @@ pub struct Opened {
     pub outcome: Result<(), Refusal>,
 }
 
-#[derive(Clone, Copy)]
-pub struct Pushed {
-    pub sequence: Sequence,
-    pub outcome: Result<(), Refusal>,
-}
-
 // Whether a modulus lies outside the limits.
 pub fn outside(modulus: u32) -> bool
     ensures { result ≡ outside modulus }
@@ -117,26 +111,6 @@ fn fresh(modulus: u32) -> Sequence
         modulus,
         count: 0,
         terms: [0; TERMS],
-    }
-}
-
-// A fresh sequence for a modulus within the limits; else one of zeros, with the refusal.
-// Rejected: an open that takes 4,096; one that refuses 1 but hands back a sequence modulo 1.
-pub fn open(modulus: u32) -> Opened
-    ensures value { result ≡ open_of modulus }
-    ensures outcome_value { outcome_answer result.outcome ≡ open_answer modulus }
-{
-    if outside(modulus) {
-        let zeros = fresh(0);
-        return Opened {
-            sequence: zeros,
-            outcome: Err(Refusal::Modulus),
-        };
-    }
-    let s = fresh(modulus);
-    Opened {
-        sequence: s,
-        outcome: Ok(()),
     }
 }
 
@@ -164,71 +138,6 @@ fn zero_from(terms: &[u32; TERMS], n: u32) -> bool
         }
     }
     true
-}
-
-// The first thing wrong with a sequence, as the refusal of a query that writes it down: 1, 2, 3, 4, in this order.
-fn inspect(s: Sequence) -> Result<(), Refusal>
-    ensures { result ≡ fault_of s }
-{
-    let m = s.modulus;
-    let n = s.count;
-    if outside(m) {
-        return Err(Refusal::Modulus);
-    }
-    if MAX_TERMS < n {
-        return Err(Refusal::Count);
-    }
-    let i = first_large(&s.terms, n, m);
-    if i < n {
-        return Err(Refusal::Term(i));
-    }
-    if zero_from(&s.terms, n) {
-        return Ok(());
-    }
-    Err(Refusal::Padding)
-}
-
-// Whether a sequence is within the limits: nothing is wrong with it.
-pub fn is_sound(s: Sequence) -> bool
-    ensures { result ≡ is_sound (fault_of s) }
-{
-    inspect(s).is_ok()
-}
-
-// The sequence with one more term at its end; as it came, with the refusal, where it is unsound or full or the term is too large. The
-// place of such a term is the one that it would have had.
-// The whole sequence is inspected at each call: its fields are public, so that anyone can hand in one that no call made.
-// Rejected: a push that is full at 127 terms; one that stores a term and then refuses it.
-pub fn push(s: Sequence, term: u32) -> Pushed
-    ensures value { result ≡ push_of s term }
-    ensures outcome_value { outcome_answer result.outcome ≡ push_answer s term }
-{
-    if is_sound(s) {
-        let n = s.count;
-        if n == MAX_TERMS {
-            return Pushed {
-                sequence: s,
-                outcome: Err(Refusal::Full),
-            };
-        }
-        if s.modulus <= term {
-            return Pushed {
-                sequence: s,
-                outcome: Err(Refusal::Term(n)),
-            };
-        }
-        let mut longer = s;
-        longer.terms[n as usize] = term;
-        longer.count = n + 1;
-        return Pushed {
-            sequence: longer,
-            outcome: Ok(()),
-        };
-    }
-    Pushed {
-        sequence: s,
-        outcome: Err(Refusal::Sequence),
-    }
 }
 
 // The sequence that a query of 260 bytes writes down: modulus, count, 128 terms.
@@ -267,58 +176,8 @@ pub fn check(query: &[u8]) -> Result<Sequence, Refusal>
         return Err(Refusal::Buffer);
     }
     let s = load(query);
-    inspect(s)?;
+    s.inspect()?;
     Ok(s)
-}
-
-// The paper's number of a refusal.
-pub fn number(r: Refusal) -> u64
-    ensures { (result ≡ (refusal r).number) × (result < 256) }
-{
-    match r {
-        Refusal::Modulus => 1,
-        Refusal::Count => 2,
-        Refusal::Term(_) => 3,
-        Refusal::Padding => 4,
-        Refusal::Buffer => 5,
-        Refusal::CandidateCoefficient => 6,
-        Refusal::Sequence => 21,
-        Refusal::Full => 22,
-        Refusal::Catalogue => 23,
-        Refusal::Record => 24,
-        Refusal::CandidateLength => 25,
-        Refusal::CandidateLead => 26,
-        Refusal::LineForm(_) => 27,
-        Refusal::LineRange(_) => 28,
-        Refusal::CountsDiffer => 29,
-        Refusal::MultipleAbove => 30,
-        Refusal::TermsDisagree(_) => 31,
-        Refusal::Period => 32,
-        Refusal::Census => 33,
-        Refusal::Batch => 34,
-    }
-}
-
-// The place that a refusal carries.
-pub fn place_of(r: Refusal) -> Option<usize>
-    ensures { placed result ≡ (refusal r).values }
-{
-    match r {
-        Refusal::Term(i) => Some(i as usize),
-        Refusal::LineForm(i) => Some(i),
-        Refusal::LineRange(i) => Some(i),
-        Refusal::TermsDisagree(i) => Some(i as usize),
-        _ => None,
-    }
-}
-
-// The register and the profile of a sound sequence.
-pub fn solve(s: Sequence) -> Synthesis
-    requires { IsSound s }
-    ensures { result ≡ synthesis_of s.modulus s.terms s.count }
-{
-    let terms = s.terms;
-    synthesis::synthesize(s.modulus, &terms, s.count as usize)
 }
 
 // Writes a to 258 bytes and b to the 256 after them: how a register stands in a record.
@@ -360,97 +219,223 @@ fn write_report(x: Synthesis, n: u32, a: &mut [u8], b: &mut [u8]) -> Report
     }
 }
 
-// Writes the shortest register of the terms, a to 129 cells and b to 128, and replies its length and whether it is the only one.
-// Rejected: one that leaves the cells as lent; one that writes a = 1 for every sequence.
-pub fn register(s: Sequence, a: &mut [u8], b: &mut [u8]) -> Result<Report, Refusal>
-    ensures value { result ≡ report_of s a.old b.old }
-    ensures a_after { a.new ≡ filled result (a_buffer s) a.old }
-    ensures b_after { b.new ≡ filled result (b_buffer s) b.old }
-    ensures result_value { reported_answer result ≡ report_answer s a.old b.old }
-{
-    if a.len() != A_BYTES {
-        return Err(Refusal::Buffer);
+impl Refusal {
+    // The paper's number of a refusal.
+    pub fn number(self) -> u64
+        ensures { (result ≡ (refusal self).number) × (result < 256) }
+    {
+        match self {
+            Refusal::Modulus => 1,
+            Refusal::Count => 2,
+            Refusal::Term(_) => 3,
+            Refusal::Padding => 4,
+            Refusal::Buffer => 5,
+            Refusal::CandidateCoefficient => 6,
+            Refusal::Sequence => 21,
+            Refusal::Full => 22,
+            Refusal::Catalogue => 23,
+            Refusal::Record => 24,
+            Refusal::CandidateLength => 25,
+            Refusal::CandidateLead => 26,
+            Refusal::LineForm(_) => 27,
+            Refusal::LineRange(_) => 28,
+            Refusal::CountsDiffer => 29,
+            Refusal::MultipleAbove => 30,
+            Refusal::TermsDisagree(_) => 31,
+            Refusal::Period => 32,
+            Refusal::Census => 33,
+            Refusal::Batch => 34,
+        }
     }
-    if b.len() != B_BYTES {
-        return Err(Refusal::Buffer);
+
+    // The place that a refusal carries.
+    pub fn place(self) -> Option<usize>
+        ensures { placed result ≡ (refusal self).values }
+    {
+        match self {
+            Refusal::Term(i) => Some(i as usize),
+            Refusal::LineForm(i) => Some(i),
+            Refusal::LineRange(i) => Some(i),
+            Refusal::TermsDisagree(i) => Some(i as usize),
+            _ => None,
+        }
     }
-    if is_sound(s) {
-        let x = solve(s);
-        return Ok(write_report(x, s.count, a, b));
-    }
-    Err(Refusal::Sequence)
 }
 
-// All that `trace` does but storing the records, for a sheet of `room` records: they are words of the log.
-pub fn work(
-    s: Sequence,
-    a: &mut [u8],
-    b: &mut [u8],
-    room: usize,
-    log: &mut [u64; LOG],
-) -> Result<Worked, Refusal>
-    requires { length log.old ≡ log_words }
-    ensures { (result ≡ work_of s a.old b.old room)
-        × (a.new ≡ filled result (a_buffer s) a.old)
-        × (b.new ≡ filled result (b_buffer s) b.old)
-        × (log.new ≡ sheet_filled result (words_of s) log.old) }
-{
-    if a.len() != A_BYTES {
-        return Err(Refusal::Buffer);
+impl Sequence {
+    // A fresh sequence for a modulus within the limits; else one of zeros, with the refusal.
+    // Rejected: an open that takes 4,096; one that refuses 1 but hands back a sequence modulo 1.
+    pub fn open(modulus: u32) -> Opened
+        ensures value { result ≡ open_of modulus }
+        ensures outcome_value { outcome_answer result.outcome ≡ open_answer modulus }
+    {
+        if outside(modulus) {
+            let zeros = fresh(0);
+            return Opened {
+                sequence: zeros,
+                outcome: Err(Refusal::Modulus),
+            };
+        }
+        let s = fresh(modulus);
+        Opened {
+            sequence: s,
+            outcome: Ok(()),
+        }
     }
-    if b.len() != B_BYTES {
-        return Err(Refusal::Buffer);
+
+    // The first thing wrong with a sequence, as the refusal of a query that writes it down: 1, 2, 3, 4, in this order.
+    fn inspect(&self) -> Result<(), Refusal>
+        ensures { result ≡ fault_of self.now }
+    {
+        let m = self.modulus;
+        let n = self.count;
+        if outside(m) {
+            return Err(Refusal::Modulus);
+        }
+        if MAX_TERMS < n {
+            return Err(Refusal::Count);
+        }
+        let i = first_large(&self.terms, n, m);
+        if i < n {
+            return Err(Refusal::Term(i));
+        }
+        if zero_from(&self.terms, n) {
+            return Ok(());
+        }
+        Err(Refusal::Padding)
     }
-    if is_sound(s) {
-        let n = s.count as usize;
-        let count = n * synthesis::count_rows(s.modulus);
-        if room < count {
+
+    // Whether a sequence is within the limits: nothing is wrong with it.
+    pub fn is_sound(&self) -> bool
+        ensures { result ≡ is_sound (fault_of self.now) }
+    {
+        self.inspect().is_ok()
+    }
+
+    // One more term at the end; the sequence stays as it is, with the refusal, where it is unsound or full or the term is too large. The place
+    // of such a term is the one that it would have had.
+    // The whole sequence is inspected at each call: its fields are public, so that anyone can hand in one that no call made.
+    // Rejected: a push that is full at 127 terms; one that stores a term and then refuses it.
+    pub fn push(&mut self, term: u32) -> Result<(), Refusal>
+        ensures value { result ≡ (push_of self.old term).outcome }
+        ensures self_after { self.new ≡ (push_of self.old term).sequence }
+        ensures result_value { outcome_answer result ≡ push_answer self.old term }
+    {
+        if !self.is_sound() {
+            return Err(Refusal::Sequence);
+        }
+        let n = self.count;
+        if n == MAX_TERMS {
+            return Err(Refusal::Full);
+        }
+        if self.modulus <= term {
+            return Err(Refusal::Term(n));
+        }
+        self.terms[n as usize] = term;
+        self.count = n + 1;
+        Ok(())
+    }
+
+    // The register and the profile of a sound sequence.
+    pub fn solve(&self) -> Synthesis
+        requires { IsSound self.now }
+        ensures { result ≡ synthesis_of self.now.modulus self.now.terms self.now.count }
+    {
+        synthesis::synthesize(self.modulus, &self.terms, self.count as usize)
+    }
+
+    // Writes the shortest register of the terms, a to 129 cells and b to 128, and replies its length and whether it is the only one.
+    // Rejected: one that leaves the cells as lent; one that writes a = 1 for every sequence.
+    pub fn register(&self, a: &mut [u8], b: &mut [u8]) -> Result<Report, Refusal>
+        ensures value { result ≡ report_of self.now a.old b.old }
+        ensures a_after { a.new ≡ filled result (a_buffer self.now) a.old }
+        ensures b_after { b.new ≡ filled result (b_buffer self.now) b.old }
+        ensures result_value { reported_answer result ≡ report_answer self.now a.old b.old }
+    {
+        if a.len() != A_BYTES {
             return Err(Refusal::Buffer);
         }
-        let x = synthesis::trace(s.modulus, &s.terms, n, log);
-        let report = write_report(x, s.count, a, b);
-        return Ok(Worked { report, count });
+        if b.len() != B_BYTES {
+            return Err(Refusal::Buffer);
+        }
+        if self.is_sound() {
+            let x = self.solve();
+            return Ok(write_report(x, self.count, a, b));
+        }
+        Err(Refusal::Sequence)
     }
-    Err(Refusal::Sequence)
-}
 
-// Does what `register` does, and fills a sheet with the working: one record for each row at each step, primes rising, then k, then the
-// row. Only this function holds the slice of structs.
-// Rejected: one that tells the length after the step; one that takes a sheet with one record too few; one that writes past the last record.
-pub fn trace(
-    s: Sequence,
-    a: &mut [u8],
-    b: &mut [u8],
-    sheet: &mut [StepRecord],
-) -> Result<Report, Refusal>
-    ensures { (result ≡ trace_of s a.old b.old (length sheet.old))
-        × (a.new ≡ filled result (a_buffer s) a.old)
-        × (b.new ≡ filled result (b_buffer s) b.old)
-        × (sheet.new ≡ sheet_filled result (records_of s) sheet.old)
-        × (reported_answer result ≡ trace_answer s a.old b.old (length sheet.old)) }
-{
-    let mut log = [0u64; LOG];
-    let w = work(s, a, b, sheet.len(), &mut log)?;
-    for i in 0..w.count {
-        sheet[i] = steps::entry(&log, i);
+    // All that `trace` does but storing the records, for a sheet of `room` records: they are words of the log.
+    pub fn work(
+        &self,
+        a: &mut [u8],
+        b: &mut [u8],
+        room: usize,
+        log: &mut [u64; LOG],
+    ) -> Result<Worked, Refusal>
+        requires { length log.old ≡ log_words }
+        ensures { (result ≡ work_of self.now a.old b.old room)
+            × (a.new ≡ filled result (a_buffer self.now) a.old)
+            × (b.new ≡ filled result (b_buffer self.now) b.old)
+            × (log.new ≡ sheet_filled result (words_of self.now) log.old) }
+    {
+        if a.len() != A_BYTES {
+            return Err(Refusal::Buffer);
+        }
+        if b.len() != B_BYTES {
+            return Err(Refusal::Buffer);
+        }
+        if self.is_sound() {
+            let n = self.count as usize;
+            let count = n * synthesis::count_rows(self.modulus);
+            if room < count {
+                return Err(Refusal::Buffer);
+            }
+            let x = synthesis::trace(self.modulus, &self.terms, n, log);
+            let report = write_report(x, self.count, a, b);
+            return Ok(Worked { report, count });
+        }
+        Err(Refusal::Sequence)
     }
-    Ok(w.report)
-}
 
-// Writes the linear complexity of the first 0, 1, .. terms to 129 cells, zero past the count.
-// Rejected: one that writes n for every length; one that leaves the cell of the last term out.
-pub fn profile(s: Sequence, cells: &mut [u8]) -> Result<(), Refusal>
-    ensures value { result ≡ profile_of s cells.old }
-    ensures cells_after { cells.new ≡ filled result (profile_buffer s) cells.old }
-    ensures result_value { outcome_answer result ≡ profile_answer s cells.old }
-{
-    if cells.len() != PROFILE_BYTES {
-        return Err(Refusal::Buffer);
+    // Does what `register` does, and fills a sheet with the working: one record for each row at each step, primes rising, then k, then the
+    // row. Only this function holds the slice of structs.
+    // Rejected: one that tells the length after the step; one that takes a sheet with one record too few; one that writes past the last record.
+    pub fn trace(
+        &self,
+        a: &mut [u8],
+        b: &mut [u8],
+        sheet: &mut [StepRecord],
+    ) -> Result<Report, Refusal>
+        ensures { (result ≡ trace_of self.now a.old b.old (length sheet.old))
+            × (a.new ≡ filled result (a_buffer self.now) a.old)
+            × (b.new ≡ filled result (b_buffer self.now) b.old)
+            × (sheet.new ≡ sheet_filled result (records_of self.now) sheet.old)
+            × (reported_answer result ≡ trace_answer self.now a.old b.old (length sheet.old)) }
+    {
+        let mut log = [0u64; LOG];
+        let w = self.work(a, b, sheet.len(), &mut log)?;
+        for i in 0..w.count {
+            sheet[i] = steps::entry(&log, i);
+        }
+        Ok(w.report)
     }
-    if is_sound(s) {
-        let x = solve(s);
-        cells::write(cells, &x.lengths);
-        return Ok(());
+
+    // Writes the linear complexity of the first 0, 1, .. terms to 129 cells, zero past the count.
+    // Rejected: one that writes n for every length; one that leaves the cell of the last term out.
+    pub fn profile(&self, cells: &mut [u8]) -> Result<(), Refusal>
+        ensures value { result ≡ profile_of self.now cells.old }
+        ensures cells_after { cells.new ≡ filled result (profile_buffer self.now) cells.old }
+        ensures result_value { outcome_answer result ≡ profile_answer self.now cells.old }
+    {
+        if cells.len() != PROFILE_BYTES {
+            return Err(Refusal::Buffer);
+        }
+        if self.is_sound() {
+            let x = self.solve();
+            cells::write(cells, &x.lengths);
+            return Ok(());
+        }
+        Err(Refusal::Sequence)
     }
-    Err(Refusal::Sequence)
 }

@@ -9,8 +9,7 @@ use Rattle.std.specs.Prelude.{Ok, Err}
 use Rattle.cells.specs.Cell.{cell_at}
 use Rattle.sequence.specs.declared.Sequence.{Sequence}
 use Rattle.sequence.specs.declared.Refusal.{Refusal}
-use Rattle.sequence.specs.declared.Pushed.{Pushed}
-use Rattle.sequence.specs.Rules.{push_of}
+use Rattle.sequence.specs.Rules.{push_of, Pushed}
 use Rattle.column.specs.declared.PushedAll.{PushedAll}
 use Rattle.column.specs.Rules.{terms_in, onward, each_of}
 use Rattle.column.proofs.Laws.{how_many, next, each_none, each_push}

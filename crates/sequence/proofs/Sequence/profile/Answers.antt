@@ -10,11 +10,11 @@ use Rattle.sequence.specs.Report.{profile_of}
 use Rattle.sequence.proofs.Laws.{sound_of}
 use Rattle.sequence.proofs.Answers.{profile_told}
 use Rattle.sequence.proofs.Reporting.{long_a, long_lengths}
-use Rattle.sequence.proofs.profile.Goals as goal
+use Rattle.sequence.proofs.Sequence.profile.Goals as goal
 
 pub returns-then-cells-ne-PROFILE_BYTES : goal.returns-then-cells-ne-PROFILE_BYTES
 unfolding profile_of
-returns-then-cells-ne-PROFILE_BYTES c = let v = c.args in profile_told v.s v.cells.now (rw (ne_eqb _ _ c.if-cells-ne-PROFILE_BYTES.true)) refl
+returns-then-cells-ne-PROFILE_BYTES c = let v = c.args in profile_told v.self.now v.cells.now (rw (ne_eqb _ _ c.if-cells-ne-PROFILE_BYTES.true)) refl
 
 pub solve-x-requires : goal.solve-x-requires
 solve-x-requires c = sound_of _ (sym c.is_sound.ensures ∙ c.if-is_sound.true)
@@ -26,10 +26,10 @@ pub returns-then-is_sound : goal.returns-then-is_sound
 unfolding profile_of synthesis_of
 returns-then-is_sound c =
     let a = c.args in
-    profile_told a.s a.cells.now
+    profile_told a.self.now a.cells.now
     (rw (eq-eqb _ _ c.if-cells-ne-PROFILE_BYTES.false, ← c.is_sound.ensures, c.if-is_sound.true))
     (c.write.ensures ∙ ap (λ (z : Synthesis). bytes_of z.lengths) c.solve-x.ensures)
 
 pub returns : goal.returns
 unfolding profile_of
-returns c = let v = c.args in profile_told v.s v.cells.now (rw (eq-eqb _ _ c.if-cells-ne-PROFILE_BYTES.false, ← c.is_sound.ensures, c.if-is_sound.false)) refl
+returns c = let v = c.args in profile_told v.self.now v.cells.now (rw (eq-eqb _ _ c.if-cells-ne-PROFILE_BYTES.false, ← c.is_sound.ensures, c.if-is_sound.false)) refl

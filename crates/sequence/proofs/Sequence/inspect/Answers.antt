@@ -2,7 +2,7 @@
 -- Assumes nothing.
 use borrow.Author.Tests.{lt-ltb, le-ltb}
 use Rattle.sequence.specs.Rules.{fault_of}
-use Rattle.sequence.proofs.inspect.Goals as goal
+use Rattle.sequence.proofs.Sequence.inspect.Goals as goal
 
 pub returns-then-outside : goal.returns-then-outside
 unfolding fault_of

@@ -2,7 +2,7 @@
 -- Assumes nothing.
 use Rattle.sequence.proofs.Reporting.{small_terms}
 use native.Mathlib.Omega.{arith}
-use Rattle.sequence.proofs.solve.Goals as goal
+use Rattle.sequence.proofs.Sequence.solve.Goals as goal
 
 pub synthesize-requires : goal.synthesize-requires
 synthesize-requires c =

@@ -2,7 +2,7 @@
 -- Assumes nothing.
 use Rattle.sequence.specs.Rules.{open_of}
 use Rattle.sequence.proofs.Answers.{open_told}
-use Rattle.sequence.proofs.open.Goals as goal
+use Rattle.sequence.proofs.Sequence.open.Goals as goal
 
 pub returns-then-outside : goal.returns-then-outside
 unfolding open_of
