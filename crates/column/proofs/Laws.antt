@@ -144,9 +144,9 @@ module _ (list : List ℕ) where
         counted en ∙ ap (λ (x : ℕ). took i s (Err (R.Term x))) ek
         ∙ ends (Err (R.Term s.count)) (left_of t h e ∙ ap (later i) (each_large s t _ f.sound room large))
 
-    pub far_all : length list / 2 ≤ i → took i s (Ok tt) ≡ whole
-    far_all h =
-        ends (Ok tt)
+    pub far_all : (n : ℕ) → n ≡ i → length list / 2 ≤ i → took n s (Ok tt) ≡ whole
+    far_all n e h =
+        counted e ∙ ends (Ok tt)
         (f.left
         ∙ ap (λ (ts : List ℕ). later i (each_of s ts)) (drop_of_length-le (terms_in list) {i = i} (omega (arith, how_many)))
         ∙ ap (later i) (each_none s))

@@ -1,30 +1,29 @@
 // A column of terms, pushed in one call.
 #![tactic(auto)]
 
-ghost use Rattle.std.specs.Prelude.{◌≡◌};
-ghost use Rattle.sequence.specs.declared.Outcome.TheVariants.{Refused};
+ghost use Rattle.std.specs.Prelude.{◌≡◌, Err};
 ghost use Rattle.sequence.specs.Answers.{outcome_answer};
 ghost use Rattle.sequence.specs.Rules.{IsSound};
 ghost use Rattle.column.specs.Rules.{terms_in, took, each_of, push_all_of, push_all_answer};
 
-use sequence::{MAX_TERMS, Outcome, Refusal, Sequence};
+use sequence::{MAX_TERMS, Refusal, Sequence};
 
-// How many terms were taken, the refusal if any, and the sequence as it is then.
+// How many terms were taken, the refusal if any, and the sequence as it is then: on a refusal too, since the terms before it stay.
 #[derive(Clone, Copy)]
 pub struct PushedAll {
     pub sequence: Sequence,
     pub taken: usize,
-    pub outcome: Outcome,
+    pub outcome: Result<(), Refusal>,
 }
 
 // A refusal that ends a column after n terms; the sequence is s then.
 fn ended(n: usize, s: Sequence, r: Refusal) -> PushedAll
-    ensures { result ≡ took n s (Refused r) }
+    ensures { result ≡ took n s (Err r) }
 {
     PushedAll {
         sequence: s,
         taken: n,
-        outcome: Outcome::Refused(r),
+        outcome: Err(r),
     }
 }
 
@@ -35,8 +34,7 @@ fn push_each(s: Sequence, list: &[u8]) -> PushedAll
 {
     let n = list.len() / 2;
     let mut longer = s;
-    let mut i: usize = 0;
-    while i < n {
+    for i in 0..n {
         let count = longer.count;
         if count == MAX_TERMS {
             return ended(i, longer, Refusal::Full);
@@ -47,12 +45,11 @@ fn push_each(s: Sequence, list: &[u8]) -> PushedAll
         }
         longer.terms[count as usize] = term;
         longer.count = count + 1;
-        i += 1;
     }
     PushedAll {
         sequence: longer,
-        taken: i,
-        outcome: Outcome::Done,
+        taken: n,
+        outcome: Ok(()),
     }
 }
 
@@ -65,7 +62,7 @@ pub fn push_all(s: Sequence, list: &[u8]) -> PushedAll
     if list.len() % 2 != 0 {
         return ended(0, s, Refusal::Buffer);
     }
-    if sequence::is_sound(s) {
+    if s.is_sound() {
         return push_each(s, list);
     }
     ended(0, s, Refusal::Sequence)

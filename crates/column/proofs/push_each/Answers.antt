@@ -37,4 +37,4 @@ loop-i-preserved c =
     (far_more _ l.invariant.0 _ (omega arith) c.cell-term.ensures.0 room small, l.invariant.1)
 
 pub returns : goal.returns
-returns c = far_all _ c.loop-i.invariant.0 c.loop-i-test.false
+returns c = far_all _ c.loop-i.invariant.0 _ (omega arith) c.loop-i-test.false
