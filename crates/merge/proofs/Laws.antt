@@ -20,11 +20,10 @@ use Rattle.cells.specs.Cell.{bytes_of}
 use Rattle.sequence.specs.declared.Sequence.{Sequence}
 use Rattle.sequence.specs.declared.Refusal.{Refusal}
 use Rattle.sequence.specs.declared.Refusal.TheVariants as R
-use Rattle.sequence.specs.declared.Checked.{Checked}
 use Rattle.sequence.specs.Limits.{max_modulus, max_terms}
 use Rattle.sequence.specs.Report.{filled}
-use Rattle.sequence.specs.Rules.{IsSound, query_of, sequence_of, check_of, checked_of}
-use Rattle.sequence.proofs.Laws.{refused_done, checked, accepted}
+use Rattle.sequence.specs.Rules.{IsSound, query_of, sequence_of, check_of}
+use Rattle.sequence.proofs.Laws.{refused_done, Accepted}
 use Rattle.sequence.proofs.Writing.{values}
 use Rattle.merge.specs.Rules.{divisor_of, multiple_of, merged_query, first_apart, compared_by, compared_of, past_buffers, merged_in}
 use Rattle.sequence.specs.Answers.{Outcome, and_then}
@@ -234,9 +233,10 @@ second_refused x y d e = sym (ap₂ (λ (o p : Outcome). and_then o (and_then p 
 
 -- where neither is refused, what the merger of the two sequences replies and leaves
 pub both_passed :
-    (x y old : List ℕ) {c d : Checked} → c ≡ checked_of x → c.outcome ≡ Ok tt → d ≡ checked_of y → d.outcome ≡ Ok tt → {r : Outcome} {new : List ℕ}
-    → r ≡ compared_of c.sequence d.sequence → new ≡ filled r (merged_query c.sequence d.sequence) old
+    (x y old : List ℕ) {s t : Sequence} → Accepted x s → Accepted y t → {r : Outcome} {new : List ℕ}
+    → r ≡ compared_of s t → new ≡ filled r (merged_query s t) old
     → record { value : r ≡ past_buffers x y; query_after : new ≡ merged_in r x y old }
-both_passed x y old ec hc ed hd {r} told written =
-    let s = (accepted x ec hc).same in
-    let t = (accepted y ed hd).same in record { value = told ∙ (λ i. compared_of (s i) (t i)) ∙ sym (ap₂ (λ (o p : Outcome). and_then o (and_then p (compared_of (sequence_of x) (sequence_of y)))) (sym (checked x ec) ∙ hc) (sym (checked y ed) ∙ hd)); query_after = written ∙ (λ i. filled r (merged_query (s i) (t i)) old) }
+both_passed x y old p q {r} told written = record {
+  value = told ∙ (λ i. compared_of (p.same i) (q.same i)) ∙ sym (ap₂ (λ (a b : Outcome). and_then a (and_then b (compared_of (sequence_of x) (sequence_of y)))) p.done q.done);
+  query_after = written ∙ (λ i. filled r (merged_query (p.same i) (q.same i)) old);
+}

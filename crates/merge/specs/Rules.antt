@@ -46,11 +46,6 @@ compared_of s t =
     let i = first_apart (divisor_of s t) s.terms t.terms s.count in
     compared_by (not (eqb s.count t.count)) (ltb max_modulus (multiple_of s t)) (ltb i s.count) i
 
--- the refusal of a query, or what comes after it
-abbrev pub and_then : Outcome → Outcome → Outcome
-and_then (Ok tt) o = o
-and_then (Err r) o = Err r
-
 -- the first query's own refusals, the second's, then 29, 30, 31
 abbrev pub past_buffers : List ℕ → List ℕ → Outcome
 past_buffers x y = and_then (check_of x) (and_then (check_of y) (compared_of (sequence_of x) (sequence_of y)))

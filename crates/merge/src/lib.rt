@@ -1,7 +1,7 @@
 // Two queries of the same sequence modulo two moduli, merged to one query modulo their least common multiple.
 #![tactic(auto)]
 
-ghost use Rattle.std.specs.Prelude.{◌≡◌, ℕ, ◌*◌, ◌%◌, ◌≤◌, ◌<◌, ltb, length};
+ghost use Rattle.std.specs.Prelude.{◌≡◌, Ok, ℕ, ◌*◌, ◌%◌, ◌≤◌, ◌<◌, ltb, length};
 ghost use Rattle.lists.specs.Choice.{pick};
 ghost use Rattle.lists.specs.Table.{at, tabulate};
 ghost use Rattle.residue.specs.Remainders.{joined, two};
@@ -12,7 +12,7 @@ ghost use Rattle.sequence.specs.Report.{filled};
 ghost use Rattle.sequence.specs.Rules.{IsSound, query_of};
 ghost use Rattle.merge.specs.Rules.{divisor_of, merged_query, first_apart, compared_by, compared_of, past_buffers, merge_of, merge_answer, merged_in};
 
-use sequence::{Outcome, QUERY_BYTES, Refusal, Sequence};
+use sequence::{QUERY_BYTES, Refusal, Sequence};
 use steps::TERMS;
 
 // The first of n places where the terms disagree modulo g, or n.
@@ -31,26 +31,26 @@ fn first_apart(xs: &[u32; TERMS], ys: &[u32; TERMS], n: u32, g: u32) -> u32
 }
 
 // The refusal of two sequences by what is wrong with them, in the order 29, 30, 31: the counts, the multiple, the terms at place i.
-fn first_refusal(differ: bool, above: bool, apart: bool, i: u32) -> Outcome
+fn first_refusal(differ: bool, above: bool, apart: bool, i: u32) -> Result<(), Refusal>
     ensures { result ≡ compared_by differ above apart i }
 {
     if differ {
-        return Outcome::Refused(Refusal::CountsDiffer);
+        return Err(Refusal::CountsDiffer);
     }
     if above {
-        return Outcome::Refused(Refusal::MultipleAbove);
+        return Err(Refusal::MultipleAbove);
     }
     if apart {
-        return Outcome::Refused(Refusal::TermsDisagree(i));
+        return Err(Refusal::TermsDisagree(i));
     }
-    Outcome::Done
+    Ok(())
 }
 
 // Whether two sequences can be merged; g is the common divisor of their moduli. Their multiple is the first modulus times what g leaves of
 // the second: below 2^32, for moduli up to 65,535 too.
-fn compare(s: Sequence, t: Sequence, g: u32) -> Outcome
-    requires { IsSound s × IsSound t × (g ≡ divisor_of s t) }
-    ensures { result ≡ compared_of s t }
+fn compare(s: &Sequence, t: &Sequence, g: u32) -> Result<(), Refusal>
+    requires { IsSound s.now × IsSound t.now × (g ≡ divisor_of s.now t.now) }
+    ensures { result ≡ compared_of s.now t.now }
 {
     let n = s.count;
     let differ = n != t.count;
@@ -100,9 +100,9 @@ fn write_query(xs: &[u32; TERMS], ys: &[u32; TERMS], n: u32, m: Moduli, query: &
 }
 
 // Writes the query of two sequences that can be merged; g is the common divisor of their moduli.
-fn write_merged(s: Sequence, t: Sequence, g: u32, query: &mut [u8])
-    requires { IsSound s × IsSound t × (g ≡ divisor_of s t) × (compared_of s t ≡ Outcome.Done) × (length query.old ≡ query_bytes) }
-    ensures { query.new ≡ merged_query s t }
+fn write_merged(s: &Sequence, t: &Sequence, g: u32, query: &mut [u8])
+    requires { IsSound s.now × IsSound t.now × (g ≡ divisor_of s.now t.now) × (compared_of s.now t.now ≡ Ok tt) × (length query.old ≡ query_bytes) }
+    ensures { query.new ≡ merged_query s.now t.now }
 {
     let mu = s.modulus / g;
     let nu = t.modulus / g;
@@ -119,63 +119,44 @@ fn write_merged(s: Sequence, t: Sequence, g: u32, query: &mut [u8])
 }
 
 // Merges two sequences that meet no refusal of their own.
-fn merge_sound(s: Sequence, t: Sequence, query: &mut [u8]) -> Outcome
-    requires { IsSound s × IsSound t × (length query.old ≡ query_bytes) }
-    ensures value { result ≡ compared_of s t }
-    ensures query_after { query.new ≡ filled result (merged_query s t) query.old }
+fn merge_sound(s: &Sequence, t: &Sequence, query: &mut [u8]) -> Result<(), Refusal>
+    requires { IsSound s.now × IsSound t.now × (length query.old ≡ query_bytes) }
+    ensures value { result ≡ compared_of s.now t.now }
+    ensures query_after { query.new ≡ filled result (merged_query s.now t.now) query.old }
 {
     let g = residue::common_divisor(s.modulus, t.modulus);
-    let o = compare(s, t, g);
-    match o {
-        Outcome::Refused(r) => Outcome::Refused(r),
-        Outcome::Done => {
-            write_merged(s, t, g, query);
-            Outcome::Done
-        }
-    }
+    compare(s, t, g)?;
+    write_merged(s, t, g, query);
+    Ok(())
 }
 
 // Merges two queries of 260 bytes: the first one's own refusals, then the second's.
-fn merge_checked(first: &[u8], second: &[u8], query: &mut [u8]) -> Outcome
+fn merge_checked(first: &[u8], second: &[u8], query: &mut [u8]) -> Result<(), Refusal>
     requires { length query.old ≡ query_bytes }
     ensures value { result ≡ past_buffers first.now second.now }
     ensures query_after { query.new ≡ merged_in result first.now second.now query.old }
 {
-    let c = sequence::check(first);
-    let o = c.outcome;
-    match o {
-        Outcome::Refused(r) => Outcome::Refused(r),
-        Outcome::Done => {
-            let d = sequence::check(second);
-            let p = d.outcome;
-            match p {
-                Outcome::Refused(r) => Outcome::Refused(r),
-                Outcome::Done => {
-                    let s = c.sequence;
-                    let t = d.sequence;
-                    merge_sound(s, t, query)
-                }
-            }
-        }
-    }
+    let s = sequence::check(first)?;
+    let t = sequence::check(second)?;
+    merge_sound(&s, &t, query)
 }
 
 // Merges two queries of the same sequence to one modulo the least common multiple of their moduli; as lent where it is refused.
 // Rejected: the product for the multiple; terms compared modulo the smaller modulus; 31 before 30; the second query's 1 before the first's 4;
 // the last place for 31.
-pub fn merge(first: &[u8], second: &[u8], query: &mut [u8]) -> Outcome
+pub fn merge(first: &[u8], second: &[u8], query: &mut [u8]) -> Result<(), Refusal>
     ensures value { result ≡ merge_of first.now second.now query.old }
     ensures query_after { query.new ≡ merged_in result first.now second.now query.old }
     ensures result_value { outcome_answer result ≡ merge_answer first.now second.now query.old }
 {
     if first.len() != QUERY_BYTES {
-        return Outcome::Refused(Refusal::Buffer);
+        return Err(Refusal::Buffer);
     }
     if second.len() != QUERY_BYTES {
-        return Outcome::Refused(Refusal::Buffer);
+        return Err(Refusal::Buffer);
     }
     if query.len() != QUERY_BYTES {
-        return Outcome::Refused(Refusal::Buffer);
+        return Err(Refusal::Buffer);
     }
     merge_checked(first, second, query)
 }
