@@ -1,11 +1,12 @@
 -- The sequences of n terms modulo m: what is replied to the number of one, and to how many of them have each length.
 -- Assumes nothing.
-use Rattle.std.specs.Prelude.{Bool, not, List, [], ◌∷◌, ℕ, ◌^◌, eqb, ltb, length, Ok, Err}
+use Rattle.std.specs.Prelude.{Bool, not, List, [], ◌∷◌, ℕ, ◌^◌, eqb, ltb, length, Ok, Err, Result}
 use Rattle.lists.specs.Choice.{pick}
 use Rattle.lists.specs.Table.{tabulate}
 use Rattle.cells.specs.Cell.{bytes_of}
 use Rattle.counting.specs.Numbering.{list_at}
 use Rattle.counting.specs.Lengths.{with_length}
+use Rattle.sequence.specs.declared.Refusal.{Refusal}
 use Rattle.sequence.specs.declared.Refusal.TheVariants as R
 use Rattle.sequence.specs.Limits.{max_terms, query_bytes}
 use Rattle.sequence.specs.Answers.{Answer, granted, refused, first_of, Outcome}
@@ -24,6 +25,9 @@ abbrev pub tally_bytes : ℕ
 tally_bytes = 26
 
 -- ---- the replies
+
+abbrev pub Counted : Type 0
+Counted = Result ℕ Refusal
 
 -- how many sequences of n terms modulo m there are; 1, 2, 33, in this order, outside the limits
 unfoldable pub counted_of : ℕ → ℕ → Counted

@@ -1,7 +1,7 @@
 // The sequences of n terms modulo m: the one with a number, and how many of them have each length.
 #![tactic(auto)]
 
-ghost use Rattle.std.specs.Prelude.{◌≡◌, ◌∷◌, suc, ◌+◌, ◌^◌, ◌≤◌, ◌<◌, min, length, set};
+ghost use Rattle.std.specs.Prelude.{◌≡◌, Ok, ◌∷◌, suc, ◌+◌, ◌^◌, ◌≤◌, ◌<◌, min, length, set};
 ghost use Rattle.lists.specs.Table.{at, tabulate};
 ghost use Rattle.cells.specs.Cell.{bytes_of};
 ghost use Rattle.recurrence.specs.Register.{complexity};
@@ -12,7 +12,7 @@ ghost use Rattle.sequence.specs.Answers.{outcome_answer};
 ghost use Rattle.sequence.specs.Report.{filled};
 ghost use Rattle.enumeration.specs.Rules.{max_sequences, lengths, counted_of, number_in, enumerate_of, enumerate_answer, query_numbered, tally_of, tally_answer, tally_cells};
 
-use sequence::{MAX_TERMS, Outcome, QUERY_BYTES, Refusal};
+use sequence::{MAX_TERMS, QUERY_BYTES, Refusal};
 use steps::TERMS;
 
 // No more sequences are counted than these, whatever the largest modulus is.
@@ -22,13 +22,6 @@ const MAX_SEQUENCES: u32 = 4096;
 pub const LENGTHS: usize = 13;
 
 pub const TALLY_BYTES: usize = 2 * LENGTHS;
-
-// How many sequences of n terms modulo m there are, or why they are not counted.
-#[derive(Clone, Copy)]
-enum Counted {
-    Sequences(u32),
-    Refused(Refusal),
-}
 
 // m^n up to 4,096, and 4,097 for any larger power: no product goes past 4,096 times m, however large n is.
 fn power(m: u32, n: u32) -> u32
@@ -47,21 +40,21 @@ fn power(m: u32, n: u32) -> u32
     product
 }
 
-// 1, 2, 33, in this order, for both calls.
-fn count_sequences(m: u32, n: u32) -> Counted
+// How many sequences of n terms modulo m there are; 1, 2, 33, in this order, for both calls.
+fn count_sequences(m: u32, n: u32) -> Result<u32, Refusal>
     ensures { result ≡ counted_of m n }
 {
     if sequence::outside(m) {
-        return Counted::Refused(Refusal::Modulus);
+        return Err(Refusal::Modulus);
     }
     if MAX_TERMS < n {
-        return Counted::Refused(Refusal::Count);
+        return Err(Refusal::Count);
     }
     let k = power(m, n);
     if MAX_SEQUENCES < k {
-        return Counted::Refused(Refusal::Census);
+        return Err(Refusal::Census);
     }
-    Counted::Sequences(k)
+    Ok(k)
 }
 
 // The terms of the sequence with a number: its last n digits to the base m, the highest first; zero past them.
@@ -96,34 +89,31 @@ fn write_query(m: u32, n: u32, terms: &[u32; TERMS], query: &mut [u8])
 }
 
 // Writes the query of the sequence with a number, of the k that there are.
-fn write_sequence(m: u32, n: u32, number: u64, k: u32, query: &mut [u8]) -> Outcome
-    requires { (counted_of m n ≡ Counted.Sequences k) × (length query.old ≡ query_bytes) }
-    ensures value { result ≡ number_in (Counted.Sequences k) number }
+fn write_sequence(m: u32, n: u32, number: u64, k: u32, query: &mut [u8]) -> Result<(), Refusal>
+    requires { (counted_of m n ≡ Ok k) × (length query.old ≡ query_bytes) }
+    ensures value { result ≡ number_in (Ok k) number }
     ensures query_after { query.new ≡ filled result (query_numbered m n number) query.old }
 {
     if k as u64 <= number {
-        return Outcome::Refused(Refusal::Census);
+        return Err(Refusal::Census);
     }
     let terms = digits(m, n as usize, number as u32);
     write_query(m, n, &terms, query);
-    Outcome::Done
+    Ok(())
 }
 
 // Writes the query of the sequence of n terms modulo m with this number, counted from 0 in dictionary order; as lent where it is refused.
 // Rejected: the digits in the other order; a number equal to m^n; 33 before 2.
-pub fn enumerate(m: u32, n: u32, number: u64, query: &mut [u8]) -> Outcome
+pub fn enumerate(m: u32, n: u32, number: u64, query: &mut [u8]) -> Result<(), Refusal>
     ensures value { result ≡ enumerate_of m n number query.old }
     ensures query_after { query.new ≡ filled result (query_numbered m n number) query.old }
     ensures result_value { outcome_answer result ≡ enumerate_answer m n number query.old }
 {
     if query.len() != QUERY_BYTES {
-        return Outcome::Refused(Refusal::Buffer);
+        return Err(Refusal::Buffer);
     }
-    let c = count_sequences(m, n);
-    match c {
-        Counted::Refused(r) => Outcome::Refused(r),
-        Counted::Sequences(k) => write_sequence(m, n, number, k, query),
-    }
+    let k = count_sequences(m, n)?;
+    write_sequence(m, n, number, k, query)
 }
 
 // The least length of the sequence with a number, by the steps.
@@ -145,7 +135,7 @@ fn add_one(counts: &mut [u32; LENGTHS], l: usize)
 
 // How many of the k sequences have each length. One is held at a time.
 fn count_lengths(m: u32, n: u32, k: u32) -> [u32; LENGTHS]
-    requires { counted_of m n ≡ Counted.Sequences k }
+    requires { counted_of m n ≡ Ok k }
     ensures { result ≡ tabulate lengths (with_length m n) }
 {
     let mut counts = [0u32; LENGTHS];
@@ -160,21 +150,16 @@ fn count_lengths(m: u32, n: u32, k: u32) -> [u32; LENGTHS]
 
 // How many sequences of n terms modulo m have each length, in 13 cells; as lent where it is refused.
 // Rejected: the number of terms taken for the length; cells past n left as lent.
-pub fn tally(m: u32, n: u32, cells: &mut [u8]) -> Outcome
+pub fn tally(m: u32, n: u32, cells: &mut [u8]) -> Result<(), Refusal>
     ensures value { result ≡ tally_of m n cells.old }
     ensures cells_after { cells.new ≡ filled result (tally_cells m n) cells.old }
     ensures result_value { outcome_answer result ≡ tally_answer m n cells.old }
 {
     if cells.len() != TALLY_BYTES {
-        return Outcome::Refused(Refusal::Buffer);
+        return Err(Refusal::Buffer);
     }
-    let c = count_sequences(m, n);
-    match c {
-        Counted::Refused(r) => Outcome::Refused(r),
-        Counted::Sequences(k) => {
-            let counts = count_lengths(m, n, k);
-            cells::write(cells, &counts);
-            Outcome::Done
-        }
-    }
+    let k = count_sequences(m, n)?;
+    let counts = count_lengths(m, n, k);
+    cells::write(cells, &counts);
+    Ok(())
 }

@@ -1,9 +1,10 @@
 -- What is replied to one period of a binary sequence that is lent as cells.
 -- Assumes nothing.
-use Rattle.std.specs.Prelude.{not, List, [], ◌∷◌, ℕ, zero, ◌/◌, ◌%◌, ◌^◌, eqb, ltb, length, Ok, Err}
+use Rattle.std.specs.Prelude.{not, List, [], ◌∷◌, ℕ, zero, ◌/◌, ◌%◌, ◌^◌, eqb, ltb, length, Ok, Err, Result}
 use Rattle.lists.specs.Choice.{pick}
 use Rattle.lists.specs.Search.{first}
 use Rattle.cells.specs.Cell.{cells_from}
+use Rattle.sequence.specs.declared.Refusal.{Refusal}
 use Rattle.sequence.specs.declared.Refusal.TheVariants as R
 use Rattle.sequence.specs.Answers.{Answer, granted, refused, refused_at, refusal, first_of}
 use Rattle.sequence.specs.Rules.{first_large}
@@ -23,6 +24,10 @@ exponent n = first periods (λ w. eqb n (2 ^ w))
 -- the digits of the period: all cells that are lent
 abbrev pub digits_in : List ℕ → List ℕ
 digits_in cells = cells_from cells 0 (length cells / 2)
+
+-- what the call answers: the length
+abbrev pub Measured : Type 0
+Measured = Result ℕ Refusal
 
 -- of a period of n digits: 3 with the first place of a digit above 1, else the length
 abbrev pub measured : List ℕ → ℕ → Measured

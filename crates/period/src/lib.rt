@@ -15,12 +15,6 @@ const PERIODS: usize = 7;
 
 const MAX_PERIOD: usize = 64;
 
-#[derive(Clone, Copy)]
-pub enum Measured {
-    Length(u32),
-    Refused(Refusal),
-}
-
 // w where n is 2^w, one of the periods; else 7.
 fn exponent(n: usize) -> usize
     ensures { result ≡ exponent n }
@@ -125,22 +119,22 @@ fn halve(digits: &mut [u32; MAX_PERIOD], e: usize, n: usize) -> u32
 
 // The length of the sequence whose period is lent as cells.
 // Rejected: the size added instead of half; halves compared up to the last but one; the last digit left out; 128 cells; 2 taken for 0.
-pub fn period_length(cells: &[u8]) -> Measured
+pub fn period_length(cells: &[u8]) -> Result<u32, Refusal>
     ensures value { result ≡ period_length_of cells.now }
     ensures result_value { measured_answer result ≡ period_length_answer cells.now }
 {
     if cells.len() % 2 != 0 {
-        return Measured::Refused(Refusal::Buffer);
+        return Err(Refusal::Buffer);
     }
     let n = cells.len() / 2;
     let w = exponent(n);
     if PERIODS <= w {
-        return Measured::Refused(Refusal::Period);
+        return Err(Refusal::Period);
     }
     let mut digits = [0u32; MAX_PERIOD];
     let i = load(cells, n, &mut digits);
     if i < n {
-        return Measured::Refused(Refusal::Term(i as u32));
+        return Err(Refusal::Term(i as u32));
     }
-    Measured::Length(halve(&mut digits, w, n))
+    Ok(halve(&mut digits, w, n))
 }
