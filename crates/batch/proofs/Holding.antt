@@ -78,8 +78,8 @@ held : (query catalogue : List ℕ) (j : ℕ) → Held query catalogue j
 held query catalogue j = go (check_of query) refl (lt_or_le (first_match query catalogue j) j)
   where
     go : (o : Outcome) → check_of query ≡ o → (first_match query catalogue j < j) ⊎ (j ≤ first_match query catalogue j) → Held query catalogue j
-    go (Ok tt) e (inl h) = met e h (held_found query catalogue j e h)
-    go (Ok tt) e (inr h) = looking e h (held_made query catalogue j e h)
+    go (Ok _) e (inl h) = met e h (held_found query catalogue j e h)
+    go (Ok _) e (inr h) = looking e h (held_made query catalogue j e h)
     go (Err r) e h = refused r e (held_refused query catalogue j r e)
 
 -- ---- it is the first match, or none

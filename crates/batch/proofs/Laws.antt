@@ -34,7 +34,7 @@ outcome_is queries catalogue out replies = ap (λ (b : Batch). b.outcome) (reply
   where
     go : (o : Outcome)
         → (reply_by o (count_kind is_found queries catalogue) (count_kind is_made queries catalogue) (count_kind is_refused queries catalogue)).outcome ≡ o
-    go (Ok tt) = refl
+    go (Ok _) = refl
     go (Err r) = refl
 
 -- ---- each query

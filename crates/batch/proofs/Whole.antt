@@ -204,7 +204,7 @@ pub counts_small :
 counts_small queries catalogue out replies {b} same = go (refused_whole (length queries) (length catalogue) (length out) (length replies)) refl
   where
     go : (o : Outcome) → refused_whole (length queries) (length catalogue) (length out) (length replies) ≡ o → b.found + b.made + b.refused ≤ max_queries
-    go (Ok tt) e =
+    go (Ok _) e =
         subst (λ (b : Batch). b.found + b.made + b.refused ≤ max_queries) (sym (same ∙ reply_by_lem queries catalogue out replies (Ok tt) e))
         (omega (arith, all_counted queries catalogue, (done_right (length queries) (length catalogue) (length out) (length replies) e).few))
     go (Err r) e =

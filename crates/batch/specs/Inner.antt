@@ -68,11 +68,11 @@ tested_code s part reply = pick (eqb reply 0) 0 (pick (passes s part) reply (cod
 
 -- one that did not keeps its zeros and its refusal
 abbrev pub settled_part : (checks : Outcome) (query part : List ℕ) (reply : ℕ) → List ℕ
-settled_part (Ok tt) query part reply = tested_part query (sequence_of query) part reply
+settled_part (Ok _) query part reply = tested_part query (sequence_of query) part reply
 settled_part (Err r) query part reply = part
 
 abbrev pub settled_code : (checks : Outcome) (query part : List ℕ) (reply : ℕ) → ℕ
-settled_code (Ok tt) query part reply = tested_code (sequence_of query) part reply
+settled_code (Ok _) query part reply = tested_code (sequence_of query) part reply
 settled_code (Err r) query part reply = reply
 
 abbrev pub Settled : (queries out replies out' replies' : List ℕ) → Type 0

@@ -77,7 +77,7 @@ refused_whole queries catalogue out replies =
 
 -- the counts beside the outcome; with a refusal they are 0
 abbrev pub reply_by : Outcome → (found made refused : ℕ) → Batch
-reply_by (Ok tt) found made refused = record { found = found; made = made; refused = refused; outcome = Ok tt }
+reply_by (Ok _) found made refused = record { found = found; made = made; refused = refused; outcome = Ok tt }
 reply_by (Err r) found made refused = record { found = 0; made = 0; refused = 0; outcome = Err r }
 
 unfoldable pub look_up_batch_of : (queries catalogue out replies : List ℕ) → Batch
@@ -88,7 +88,7 @@ look_up_batch_of queries catalogue out replies =
 
 -- the reply by number: the three counts as values
 abbrev pub answer_by : Outcome → (found made refused : ℕ) → Answer
-answer_by (Ok tt) found made refused = granted (found ∷ made ∷ refused ∷ [])
+answer_by (Ok _) found made refused = granted (found ∷ made ∷ refused ∷ [])
 answer_by (Err r) found made refused = refusal r
 
 abbrev pub batch_answer : Batch → Answer
@@ -110,7 +110,7 @@ end_to_end (suc n) f = f zero ++ end_to_end n (λ i. f (suc i))
 
 -- the records at exit, and the replies: each is what its query gets alone; where the whole call is refused, as lent
 abbrev pub batched_in : Outcome → (now lent : List ℕ) → List ℕ
-batched_in (Ok tt) now lent = now
+batched_in (Ok _) now lent = now
 batched_in (Err r) now lent = lent
 
 abbrev pub parts_in : ℕ → Batch → (queries catalogue out : List ℕ) → List ℕ

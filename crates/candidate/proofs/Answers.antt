@@ -52,11 +52,11 @@ verify_told query a b l e =
     rest = candidate_refusals s.modulus l (a_cells a) (b_cells b)
 
     judged : (o : Outcome) → verdict_answer (and_then o verdict) ≡ or_refused o v
-    judged (Ok tt) = refl
+    judged (Ok _) = refl
     judged (Err r) = refl
 
     after : (o : Outcome) → verdict_answer (and_then o (and_then flaw verdict)) ≡ or_refused o (first_of rest v)
-    after (Ok tt) = judged flaw ∙ candidate_told s.modulus l (a_cells a) (b_cells b) v
+    after (Ok _) = judged flaw ∙ candidate_told s.modulus l (a_cells a) (b_cells b) v
     after (Err r) = refl
 
     go :
@@ -81,7 +81,7 @@ generate_told m a b l cells e x =
     rest = candidate_refusals m l (a_cells a) (b_cells b)
 
     found : (o : Outcome) → outcome_answer o ≡ or_refused o (granted [])
-    found (Ok tt) = refl
+    found (Ok _) = refl
     found (Err r) = refl
 
     go :

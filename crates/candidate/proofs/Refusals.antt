@@ -18,8 +18,8 @@ use Rattle.sequence.specs.declared.Refusal.TheVariants as R
 use Rattle.sequence.specs.Limits.{max_modulus, max_terms, a_bytes, b_bytes}
 use Rattle.sequence.specs.Answers.{refusal, Outcome, and_then}
 use Rattle.sequence.specs.Rules.{outside, sequence_of, check_of}
-use Rattle.sequence.proofs.Laws.{inside, refused_done, same_number}
-use Rattle.candidate.specs.Rules.{a_cells, b_cells, flaw_of, Fits, IsFine, verdict_of, judge_of, verify_of, generate_of}
+use Rattle.sequence.proofs.Laws.{inside, refused_done, same_number, refused_as}
+use Rattle.candidate.specs.Rules.{a_cells, b_cells, flaw_of, Fits, IsFine, verdict_of, judge_of, verify_of, generate_of, Verdict}
 use Rattle.candidate.proofs.Testing.{verify_judges}
 use Rattle.candidate.proofs.Laws.{Found, long, coefficient, lead, fine, found, of_fine}
 
@@ -111,14 +111,11 @@ module _ (m l : ℕ) (a b : List ℕ) where
 
 -- ---- testing
 
-refused_same : {r r' : Refusal} → Err r ≡ Err r' → Err r ≡ Err r'
-refused_same h = cc
-
 -- a verdict is no refusal
 no_refusal : {A : Type 0} (n i : ℕ) {r : Refusal} → verdict_of n i ≡ Err r → A
 no_refusal n i h = go (ltb i n) h
   where
-    go : {A : Type 0} {r : Refusal} (b : Bool) → pick b (Ok (Some i)) (Ok None) ≡ Err r → A
+    go : {A : Type 0} {r : Refusal} (b : Bool) → ◌≡◌ {A = Verdict} (pick b (Ok (Some i)) (Ok None)) (Err r) → A
     go true h = let z : ◌≡◌ {A = ℕ} 0 1 = cc in absurd (omega arith)
     go false h = let z : ◌≡◌ {A = ℕ} 0 1 = cc in absurd (omega arith)
 
@@ -153,17 +150,17 @@ verify_refused query a b l {r} h other =
     i : ℕ
     i = first_difference (sequence_of query).modulus (sequence_of query).terms (a_cells a) (b_cells b) n
 
-    buffer : {A : Type 0} → Err R.Buffer ≡ Err r → A
-    buffer k = absurd (other (sym (same_number (refused_same k))))
+    buffer : {A : Type 0} → ◌≡◌ {A = Verdict} (Err R.Buffer) (Err r) → A
+    buffer k = absurd (other (sym (same_number (refused_as k))))
 
     go :
         (x y : Bool) (o f : Outcome) → eqb (length a) a_bytes ≡ x → eqb (length b) b_bytes ≡ y → check_of query ≡ o → flaw ≡ f
         → pick x (pick y (and_then o (and_then f (verdict_of n i))) (Err R.Buffer)) (Err R.Buffer) ≡ Err r → VerifyRefused query a b l r
     go false y o f x' y' o' f' k = buffer k
     go true false o f x' y' o' f' k = buffer k
-    go true true (Err s) f x' y' o' f' k = record { a_size = eqb-true _ _ x'; b_size = eqb-true _ _ y'; source = inl (o' ∙ refused_same k) }
-    go true true (Ok tt) (Err s) x' y' o' f' k = record { a_size = eqb-true _ _ x'; b_size = eqb-true _ _ y'; source = inr (o', f' ∙ refused_same k) }
-    go true true (Ok tt) (Ok tt) x' y' o' f' k = no_refusal n i k
+    go true true (Err s) f x' y' o' f' k = record { a_size = eqb-true _ _ x'; b_size = eqb-true _ _ y'; source = inl (o' ∙ refused_as k) }
+    go true true (Ok _) (Err s) x' y' o' f' k = record { a_size = eqb-true _ _ x'; b_size = eqb-true _ _ y'; source = inr (o', f' ∙ refused_as k) }
+    go true true (Ok _) (Ok _) x' y' o' f' k = no_refusal n i k
 
 -- ---- running
 
@@ -182,7 +179,7 @@ generate_refused m a b l cells {r} h large =
     go (eqb (length a) a_bytes) (eqb (length b) b_bytes) (eqb (length cells % 2) 0) (outside m) (ltb max_terms (length cells / 2)) refl refl refl refl refl h
   where
     -- the number of another refusal is too small
-    other : {x : Refusal} {A : Type 0} → (refusal x).number ≤ 5 → Err x ≡ Err r → A
+    other : {x : Refusal} {A : Type 0} → (refusal x).number ≤ 5 → ◌≡◌ {A = Outcome} (Err x) (Err r) → A
     other small k = absurd (omega (arith, small, large, same_number k))
 
     flaw : Outcome

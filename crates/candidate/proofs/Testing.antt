@@ -20,7 +20,7 @@ use Rattle.recurrence.proofs.Running.{yes→runs, runs→yes, no→differs, diff
 use Rattle.sequence.specs.declared.Sequence.{Sequence}
 use Rattle.sequence.specs.Limits.{max_modulus, max_terms, max_cells, a_bytes, b_bytes}
 use Rattle.sequence.specs.Rules.{sequence_of, check_of, IsSound}
-use Rattle.candidate.specs.Rules.{a_cells, b_cells, flaw_of, IsFine, verdict_of, judge_of, verify_of, generate_of}
+use Rattle.candidate.specs.Rules.{a_cells, b_cells, flaw_of, IsFine, verdict_of, judge_of, verify_of, generate_of, Verdict}
 use Rattle.candidate.proofs.Laws.{fine_of}
 
 -- ---- neither is refused
@@ -54,14 +54,14 @@ generate_done m a b l cells n least most ha hb good long few = generate_flaw m a
 yes_none : (n d : ℕ) → verdict_of n d ≡ Ok None → n ≤ d
 yes_none n d h = go (ltb d n) refl h
   where
-    go : (t : Bool) → ltb d n ≡ t → pick t (Ok (Some d)) (Ok None) ≡ Ok None → n ≤ d
+    go : (t : Bool) → ltb d n ≡ t → ◌≡◌ {A = Verdict} (pick t (Ok (Some d)) (Ok None)) (Ok None) → n ≤ d
     go true e h = let z : ◌≡◌ {A = ℕ} 0 1 = cc in absurd (omega arith)
     go false e h = ltb-false _ _ e
 
 no_first : (n d j : ℕ) → verdict_of n d ≡ Ok (Some j) → (d ≡ j) × (d < n)
 no_first n d j h = go (ltb d n) refl h
   where
-    go : (t : Bool) → ltb d n ≡ t → pick t (Ok (Some d)) (Ok None) ≡ Ok (Some j) → (d ≡ j) × (d < n)
+    go : (t : Bool) → ltb d n ≡ t → ◌≡◌ {A = Verdict} (pick t (Ok (Some d)) (Ok None)) (Ok (Some j)) → (d ≡ j) × (d < n)
     go true e h = (cc, ltb-true _ _ e)
     go false e h = let z : ◌≡◌ {A = ℕ} 0 1 = cc in absurd (omega arith)
 

@@ -1,12 +1,13 @@
 -- Candidate registers (the paper's claims): when one is malformed, what testing one against a query replies, and what running one gives.
 -- Assumes nothing.
-use Rattle.std.specs.Prelude.{◌≡◌, Bool, not, List, [], ◌∷◌, ◌++◌, ℕ, zero, ◌+◌, ◌/◌, ◌%◌, ◌≤◌, ◌<◌, ltb, eqb, length, Some, None, Ok, Err}
+use Rattle.std.specs.Prelude.{◌≡◌, Bool, not, List, [], ◌∷◌, ◌++◌, ℕ, zero, ◌+◌, ◌/◌, ◌%◌, ◌≤◌, ◌<◌, ltb, eqb, length, Some, None, Ok, Err, Option, Result}
 use Rattle.lists.specs.Choice.{pick, both}
 use Rattle.lists.specs.Table.{at}
 use Rattle.lists.specs.Search.{all}
 use Rattle.cells.specs.Cell.{cells_from, bytes_of}
 use Rattle.recurrence.specs.Running.{generated, first_difference}
 use Rattle.sequence.specs.declared.Sequence.{Sequence}
+use Rattle.sequence.specs.declared.Refusal.{Refusal}
 use Rattle.sequence.specs.declared.Refusal.TheVariants as R
 use Rattle.sequence.specs.Limits.{max_terms, max_cells, a_bytes, b_bytes}
 use Rattle.sequence.specs.Answers.{Answer, granted, refused, refusal, first_of, Outcome, and_then}
@@ -42,6 +43,10 @@ candidate_refusals m l a b =
     ∷ (not (eqb (at a 0) 1), refused 26)
     ∷ []
 
+-- the first place where a candidate fails, or none: that is yes
+abbrev pub Verdict : Type 0
+Verdict = Result (Option ℕ) Refusal
+
 -- yes has no value, no the place
 abbrev pub verdict_answer : Verdict → Answer
 verdict_answer (Ok None) = granted []
@@ -53,10 +58,6 @@ verdict_answer (Err r) = refusal r
 -- yes, or no with the first place where the product and b differ
 abbrev pub verdict_of : ℕ → ℕ → Verdict
 verdict_of n i = pick (ltb i n) (Ok (Some i)) (Ok None)
-
-abbrev pub and_then : Outcome → Verdict → Verdict
-and_then (Ok tt) v = v
-and_then (Err r) v = Err r
 
 -- the test against a sound sequence: 25, 6, 26, or the verdict
 unfoldable pub judge_of : Sequence → List ℕ → List ℕ → ℕ → Verdict
@@ -108,7 +109,7 @@ generate_answer m a b l cells =
 
 -- the cells at exit: run whole, or as lent
 abbrev pub generated_in : Outcome → ℕ → List ℕ → List ℕ → ℕ → List ℕ → List ℕ
-generated_in (Ok tt) m a b l cells = bytes_of (generated m l (a_cells a) (b_cells b) (length cells / 2))
+generated_in (Ok _) m a b l cells = bytes_of (generated m l (a_cells a) (b_cells b) (length cells / 2))
 generated_in (Err r) m a b l cells = cells
 
 -- what 6 asks of a candidate of length l modulo m

@@ -11,15 +11,8 @@ ghost use Rattle.sequence.specs.Answers.{outcome_answer};
 ghost use Rattle.sequence.specs.Rules.{IsSound, zero_from};
 ghost use Rattle.candidate.specs.Rules.{a_cells, b_cells, all_below, fits, flaw_by, flaw_of, judge_of, verdict_answer, verify_of, verify_answer, generate_of, generate_answer, generated_in};
 
-use sequence::{Outcome, Refusal, Sequence};
+use sequence::{Refusal, Sequence};
 use steps::{CELLS, TERMS};
-
-#[derive(Clone, Copy)]
-pub enum Verdict {
-    Yes,
-    No(u32),
-    Refused(Refusal),
-}
 
 // Whether each of the first n cells is below m.
 fn all_below(s: &[u8], n: usize, m: u32) -> bool
@@ -68,23 +61,23 @@ fn fits(m: u32, l: u32, a: &[u8], b: &[u8]) -> bool
 }
 
 // The refusal of a candidate by what is wrong with it, in the order 25, 6, 26: the length, a coefficient, a_0.
-fn first_flaw(long: bool, coefficient: bool, lead: bool) -> Outcome
+fn first_flaw(long: bool, coefficient: bool, lead: bool) -> Result<(), Refusal>
     ensures { result ≡ flaw_by long coefficient lead }
 {
     if long {
-        return Outcome::Refused(Refusal::CandidateLength);
+        return Err(Refusal::CandidateLength);
     }
     if coefficient {
-        return Outcome::Refused(Refusal::CandidateCoefficient);
+        return Err(Refusal::CandidateCoefficient);
     }
     if lead {
-        return Outcome::Refused(Refusal::CandidateLead);
+        return Err(Refusal::CandidateLead);
     }
-    Outcome::Done
+    Ok(())
 }
 
 // The first thing wrong with a candidate of length l modulo m.
-fn find_flaw(m: u32, l: u32, a: &[u8], b: &[u8]) -> Outcome
+fn find_flaw(m: u32, l: u32, a: &[u8], b: &[u8]) -> Result<(), Refusal>
     requires { (length a.now ≡ a_bytes) × (length b.now ≡ b_bytes) }
     ensures { result ≡ flaw_of m l (a_cells a.now) (b_cells b.now) }
 {
@@ -128,48 +121,35 @@ fn first_difference(terms: &[u32; TERMS], a: &[u8], b: &[u8], n: usize, m: u32) 
     }
 }
 
-// The test of a candidate against a sound sequence.
-pub fn judge(s: Sequence, a: &[u8], b: &[u8], l: u32) -> Verdict
-    requires { IsSound s × (length a.now ≡ a_bytes) × (length b.now ≡ b_bytes) }
-    ensures { result ≡ judge_of s (a_cells a.now) (b_cells b.now) l }
+// The test of a candidate against a sound sequence: the first place where the product and b differ, or none.
+pub fn judge(s: &Sequence, a: &[u8], b: &[u8], l: u32) -> Result<Option<u32>, Refusal>
+    requires { IsSound s.now × (length a.now ≡ a_bytes) × (length b.now ≡ b_bytes) }
+    ensures { result ≡ judge_of s.now (a_cells a.now) (b_cells b.now) l }
 {
     let m = s.modulus;
-    let o = find_flaw(m, l, a, b);
-    match o {
-        Outcome::Refused(r) => Verdict::Refused(r),
-        Outcome::Done => {
-            let n = s.count as usize;
-            let terms = s.terms;
-            let i = first_difference(&terms, a, b, n, m);
-            if i < n {
-                return Verdict::No(i as u32);
-            }
-            Verdict::Yes
-        }
+    find_flaw(m, l, a, b)?;
+    let n = s.count as usize;
+    let i = first_difference(&s.terms, a, b, n, m);
+    if i < n {
+        return Ok(Some(i as u32));
     }
+    Ok(None)
 }
 
-// Tests a candidate against a query: yes, or no with the first place where the product and b differ.
+// Tests a candidate against a query. None says yes: it generates the terms. A place says no: it is the first where the product and b differ.
 // Rejected: a test that stops at n - 1 places; one that says yes to a candidate whose a_0 is not 1.
-pub fn verify(query: &[u8], a: &[u8], b: &[u8], length: u32) -> Verdict
+pub fn verify(query: &[u8], a: &[u8], b: &[u8], length: u32) -> Result<Option<u32>, Refusal>
     ensures value { result ≡ verify_of query.now a.now b.now length }
     ensures result_value { verdict_answer result ≡ verify_answer query.now a.now b.now length }
 {
     if a.len() != sequence::A_BYTES {
-        return Verdict::Refused(Refusal::Buffer);
+        return Err(Refusal::Buffer);
     }
     if b.len() != sequence::B_BYTES {
-        return Verdict::Refused(Refusal::Buffer);
+        return Err(Refusal::Buffer);
     }
-    let c = sequence::check(query);
-    let o = c.outcome;
-    match o {
-        Outcome::Refused(r) => Verdict::Refused(r),
-        Outcome::Done => {
-            let s = c.sequence;
-            judge(s, a, b, length)
-        }
-    }
+    let s = sequence::check(query)?;
+    judge(&s, a, b, length)
 }
 
 fn smaller(x: usize, y: usize) -> usize
@@ -209,34 +189,35 @@ fn fill(m: u32, a: &[u8], b: &[u8], l: usize, out: &mut [u8], n: usize)
 
 // Runs a candidate for as many cells as are lent.
 // Rejected: a run that sums over l places before there are l; one that leaves the last cell as lent.
-pub fn generate(modulus: u32, a: &[u8], b: &[u8], length: u32, out: &mut [u8]) -> Outcome
+pub fn generate(
+    modulus: u32,
+    a: &[u8],
+    b: &[u8],
+    length: u32,
+    out: &mut [u8],
+) -> Result<(), Refusal>
     ensures value { result ≡ generate_of modulus a.now b.now length out.old }
     ensures out_after { out.new ≡ generated_in result modulus a.now b.now length out.old }
     ensures result_value { outcome_answer result ≡ generate_answer modulus a.now b.now length out.old }
 {
     if a.len() != sequence::A_BYTES {
-        return Outcome::Refused(Refusal::Buffer);
+        return Err(Refusal::Buffer);
     }
     if b.len() != sequence::B_BYTES {
-        return Outcome::Refused(Refusal::Buffer);
+        return Err(Refusal::Buffer);
     }
     let odd = out.len() % 2;
     if odd != 0 {
-        return Outcome::Refused(Refusal::Buffer);
+        return Err(Refusal::Buffer);
     }
     if sequence::outside(modulus) {
-        return Outcome::Refused(Refusal::Modulus);
+        return Err(Refusal::Modulus);
     }
     let n = out.len() / 2;
     if TERMS < n {
-        return Outcome::Refused(Refusal::Count);
+        return Err(Refusal::Count);
     }
-    let o = find_flaw(modulus, length, a, b);
-    match o {
-        Outcome::Refused(r) => Outcome::Refused(r),
-        Outcome::Done => {
-            fill(modulus, a, b, length as usize, out, n);
-            Outcome::Done
-        }
-    }
+    find_flaw(modulus, length, a, b)?;
+    fill(modulus, a, b, length as usize, out, n);
+    Ok(())
 }

@@ -22,7 +22,7 @@ unfolding synthesize_of synthesize_answer first_of
 synthesize_told query out e x = record { value = e; out_after = x; result_value = ap outcome_answer e ∙ go (eqb (length out) record_bytes) }
   where
     after : (o : Outcome) → outcome_answer o ≡ or_refused o (granted [])
-    after (Ok tt) = refl
+    after (Ok _) = refl
     after (Err r) = refl
 
     checked : outcome_answer (check_of query) ≡ first_of (query_refusals query) (granted [])
@@ -73,7 +73,7 @@ look_up_told query catalogue out e x = record { value = e; out_after = x; result
     looked true true = served good
 
     after : (o : Outcome) → looked_up_answer (and_then o fetched) ≡ or_refused o (first_of rest v)
-    after (Ok tt) = looked whole met
+    after (Ok _) = looked whole met
     after (Err r) = refl
 
     go :

@@ -196,9 +196,9 @@ found_below query catalogue out i h =
         pick b (and_then o (pick d (serve_of (sequence_of query) catalogue f) (Err R.Catalogue))) (Err R.Buffer) ≡ Ok (Some i) → i < records catalogue
     go false o d f e q = let z : ◌≡◌ {A = ℕ} 0 1 = cc in absurd (omega arith)
     go true (Err r) d f e q = let z : ◌≡◌ {A = ℕ} 0 1 = cc in absurd (omega arith)
-    go true (Ok tt) false f e q = let z : ◌≡◌ {A = ℕ} 0 1 = cc in absurd (omega arith)
-    go true (Ok tt) true None e q = let z : ◌≡◌ {A = ℕ} 0 1 = cc in absurd (omega arith)
-    go true (Ok tt) true (Some j) e q = served j (passes (sequence_of query) (record_at catalogue j)) e q
+    go true (Ok _) false f e q = let z : ◌≡◌ {A = ℕ} 0 1 = cc in absurd (omega arith)
+    go true (Ok _) true None e q = let z : ◌≡◌ {A = ℕ} 0 1 = cc in absurd (omega arith)
+    go true (Ok _) true (Some j) e q = served j (passes (sequence_of query) (record_at catalogue j)) e q
 
 -- a query that passed its checks, in a catalogue of whole records: its first record is tested, and without one a record is made
 module _ (query catalogue out : List ℕ) (size : length out ≡ record_bytes) (passed : check_of query ≡ Ok tt) (whole : length catalogue % record_bytes ≡ 0) where

@@ -73,9 +73,9 @@ look_up_refused query catalogue out {r} h other =
         pick b (and_then o (pick d (serve_of (sequence_of query) catalogue f) (Err R.Catalogue))) (Err R.Buffer) ≡ Err r → LookUpRefused query catalogue out r
     go false o d f e e' q = absurd (other (sym (same_number (refused_same q))))
     go true (Err s) d f e e' q = record { size = eqb-true _ _ e; source = inl (e' ∙ refused_same q) }
-    go true (Ok tt) false f e e' q = record { size = eqb-true _ _ e; source = inr (inl (refused_same q)) }
-    go true (Ok tt) true None e e' q = let z : ◌≡◌ {A = ℕ} 0 1 = cc in absurd (omega arith)
-    go true (Ok tt) true (Some j) e e' q = served j (passes (sequence_of query) (record_at catalogue j)) (eqb-true _ _ e) q
+    go true (Ok _) false f e e' q = record { size = eqb-true _ _ e; source = inr (inl (refused_same q)) }
+    go true (Ok _) true None e e' q = let z : ◌≡◌ {A = ℕ} 0 1 = cc in absurd (omega arith)
+    go true (Ok _) true (Some j) e e' q = served j (passes (sequence_of query) (record_at catalogue j)) (eqb-true _ _ e) q
 
 -- what 24 says: nothing before it applies, and the first record with this query does not pass
 pub record Failed (query catalogue out : List ℕ) : Type 0 where
@@ -114,13 +114,13 @@ fails_look_up query catalogue out h =
         → Failed query catalogue out
     go false o d f g b' o' d' f' g' q = other (λ n. omega arith) q
     go true (Err r) d f g b' o' d' f' g' q = other (λ n. omega (arith, n, check_small query o')) q
-    go true (Ok tt) false f g b' o' d' f' g' q = other (λ n. omega arith) q
-    go true (Ok tt) true false g b' o' d' f' g' q = let z : ◌≡◌ {A = ℕ} 0 1 = cc in absurd (omega arith)
-    go true (Ok tt) true true true b' o' d' f' g' q =
+    go true (Ok _) false f g b' o' d' f' g' q = other (λ n. omega arith) q
+    go true (Ok _) true false g b' o' d' f' g' q = let z : ◌≡◌ {A = ℕ} 0 1 = cc in absurd (omega arith)
+    go true (Ok _) true true true b' o' d' f' g' q =
         let e : Ok (Some k) ≡ Err R.Record = ap (λ (x : Bool). pick x (Ok (Some k)) (Err R.Record)) (sym g') ∙ q in
         let z : ◌≡◌ {A = ℕ} 0 1 = cc in
         absurd (omega arith)
-    go true (Ok tt) true true false b' o' d' f' g' q =
+    go true (Ok _) true true false b' o' d' f' g' q =
         record { size = eqb-true _ _ b'; passed = o'; whole = eqb-true _ _ d'; within = ltb-true _ _ f'; fails = g' }
 
 -- ---- the test of a record that is met

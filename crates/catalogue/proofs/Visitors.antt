@@ -79,5 +79,5 @@ made_checked query c out h = go (eqb (length out) record_bytes) (check_of query)
   where
     go : (b : Bool) (o : Outcome) → check_of query ≡ o → pick b (and_then o (fetch_of query c)) (Err R.Buffer) ≡ Ok None → check_of query ≡ Ok tt
     go false o e q = let z : ◌≡◌ {A = ℕ} 0 1 = cc in absurd (omega arith)
-    go true (Ok tt) e q = e
+    go true (Ok _) e q = e
     go true (Err r) e q = let z : ◌≡◌ {A = ℕ} 0 1 = cc in absurd (omega arith)

@@ -98,7 +98,7 @@ fetch_of query catalogue =
     (Err R.Catalogue)
 
 abbrev pub and_then : Outcome → LookedUp → LookedUp
-and_then (Ok tt) t = t
+and_then (Ok _) t = t
 and_then (Err r) t = Err r
 
 -- 5 (query, record), 1, 2, 3, 4, 23, 24, in this order

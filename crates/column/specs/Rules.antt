@@ -20,7 +20,7 @@ took n s o = record { sequence = s; taken = n; outcome = o }
 
 -- behind a push that left s: one taken and the rest of the column, or its end at a refused term
 abbrev pub onward : Outcome → Sequence → PushedAll → PushedAll
-onward (Ok tt) s rest = took (suc rest.taken) rest.sequence rest.outcome
+onward (Ok _) s rest = took (suc rest.taken) rest.sequence rest.outcome
 onward (Err r) s rest = took zero s (Err r)
 
 -- the terms pushed singly, up to the first refused one

@@ -25,7 +25,7 @@ tally_line m n cells =
 
 -- by the reply of a tally: its refusal, or its line
 abbrev pub tallied_line : Outcome → ℕ → ℕ → List ℕ
-tallied_line (Ok tt) m n = tally_line m n (tally_cells m n)
+tallied_line (Ok _) m n = tally_line m n (tally_cells m n)
 tallied_line (Err r) m n = refusal_line r
 
 -- tally_in (counted_of m n) is what a tally into a buffer of its length replies

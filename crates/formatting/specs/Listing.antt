@@ -53,7 +53,7 @@ refusal_line r = refusal_text r ++ bytes "\n"
 
 -- the line of a query with this outcome of its checks: its refusal, or the line of its register
 abbrev pub line_of : Outcome → Sequence → List ℕ
-line_of (Ok tt) s = register_line s.modulus s.count (register_of s).length (register_of s).a
+line_of (Ok _) s = register_line s.modulus s.count (register_of s).length (register_of s).a
 line_of (Err r) s = refusal_line r
 
 unfoldable pub query_line : List ℕ → List ℕ
@@ -77,7 +77,7 @@ uniqueness_line (Err r) = []
 
 -- the line that answers a typed line: its refusal, or the line of the query that it becomes
 abbrev pub answer_line : Outcome → Found → List ℕ
-answer_line (Ok tt) found = query_line (query_in found)
+answer_line (Ok _) found = query_line (query_in found)
 answer_line (Err r) found = refusal_line r
 
 unfoldable pub typed_line : List ℕ → List ℕ

@@ -50,7 +50,7 @@ use Rattle.sequence.specs.Answers.{Outcome}
 -- ---- the reason of each reply
 
 kept : (o : Outcome) (new old : List ℕ) → (o ≡ Ok tt → ⊥) → filled o new old ≡ old
-kept (Ok tt) new old h = absurd (h refl)
+kept (Ok _) new old h = absurd (h refl)
 kept (Err r) new old h = refl
 
 module _ (m n : ℕ) where

@@ -88,7 +88,7 @@ each_singly s (t ∷ ts) = subst (Singly s (t ∷ ts)) (sym (each_push s t ts)) 
     rest = each_of s' ts
 
     go : (o : Outcome) → (push_of s t).outcome ≡ o → Singly s' ts rest → Singly s (t ∷ ts) (onward o s' rest)
-    go (Ok tt) e k = record { each = each; sequence = k.sequence; ends = ends k.ends }
+    go (Ok _) e k = record { each = each; sequence = k.sequence; ends = ends k.ends }
       where
         each : (i : ℕ) → i < suc rest.taken → (push_of (after_first s (t ∷ ts) i) (at (t ∷ ts) i)).outcome ≡ Ok tt
         each zero h = e

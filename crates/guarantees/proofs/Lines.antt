@@ -171,7 +171,7 @@ module _ (line query : List ℕ) where
   kept n = go (read_of line query) refl
     where
       go : (o : Outcome) → read_of line query ≡ o → filled o (query_in (found_in line)) query ≡ query
-      go (Ok tt) e = absurd (n e)
+      go (Ok _) e = absurd (n e)
       go (Err r) e = refl
 
   reads_line : ReadsLine line query

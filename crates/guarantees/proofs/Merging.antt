@@ -246,9 +246,9 @@ module _ (x y query : List ℕ) where
       go true ha true hb false hd p hp q hq = query_buffer (λ h. false_true (sym hd ∙ eq-eqb (length query) query_bytes h)) refl
       go true ha true hb true hd (Err r) hp q hq =
           first_own r (eqb-true (length x) query_bytes ha) (eqb-true (length y) query_bytes hb) (eqb-true (length query) query_bytes hd) hp refl
-      go true ha true hb true hd (Ok tt) hp (Err r) hq =
+      go true ha true hb true hd (Ok _) hp (Err r) hq =
           second_own r (passed_clean x hp) (eqb-true (length y) query_bytes hb) (eqb-true (length query) query_bytes hd) hq refl
-      go true ha true hb true hd (Ok tt) hp (Ok tt) hq =
+      go true ha true hb true hd (Ok _) hp (Ok _) hq =
           reason_of x y hp hq query (eqb-true (length query) query_bytes hd) (compared_of (sequence_of x) (sequence_of y)) (comparing (sequence_of x) (sequence_of y))
 
   -- past 5 the reply is that of the checks, and past these that of the comparison
@@ -423,7 +423,7 @@ module _ (x y query : List ℕ) where
   kept_told other = go (merge_of x y query) refl
     where
       go : (o : Outcome) → merge_of x y query ≡ o → merged_in o x y query ≡ query
-      go (Ok tt) e = absurd (other e)
+      go (Ok _) e = absurd (other e)
       go (Err r) e = refl
 
 pub two_queries : TwoQueries

@@ -42,7 +42,7 @@ merge_told x y query e z =
 
     -- a refusal of a query's own, or what is answered after it
     after : (o p : Outcome) (v : Answer) → outcome_answer p ≡ v → outcome_answer (and_then o p) ≡ or_refused o v
-    after (Ok tt) p v h = h
+    after (Ok _) p v h = h
     after (Err r) p v h = refl
 
     both : outcome_answer (and_then (check_of x) (and_then (check_of y) (compared_of s t))) ≡ first_of (query_refusals x ++ (query_refusals y ++ rest)) (granted [])

@@ -85,7 +85,7 @@ profile_told s cells e x = record { value = e; cells_after = x; result_value = a
 
 -- the answer where the query is not refused
 abbrev pub or_refused : Outcome → Answer → Answer
-or_refused (Ok tt) x = x
+or_refused (Ok _) x = x
 or_refused (Err r) x = refusal r
 
 -- the query's refusals come first, then those behind them

@@ -307,13 +307,16 @@ done_check query h k = rw (eq-eqb _ _ h) (of_sound (sequence_of query) k)
 pub same_refusal : {A : Type 0} {r r' : Refusal} → ◌≡◌ {A = Result A Refusal} (Err r) (Err r') → r ≡ r'
 same_refusal h = cc
 
+pub refused_as : {A B : Type 0} {r r' : Refusal} → ◌≡◌ {A = Result A Refusal} (Err r) (Err r') → ◌≡◌ {A = Result B Refusal} (Err r) (Err r')
+refused_as h = ap Err (same_refusal h)
+
 -- what `check` tells of a query that is refused
 pub checked_refused : (query : List ℕ) {r : Refusal} → Err r ≡ checked_of query → check_of query ≡ Err r
 unfolding checked_of
 checked_refused query {r} e = go (check_of query) refl e
   where
     go : (o : Outcome) → check_of query ≡ o → Err r ≡ and_then o (Ok (sequence_of query)) → check_of query ≡ Err r
-    go (Ok tt) h k = let z : ◌≡◌ {A = Bool} false true = cc in false_true z
+    go (Ok _) h k = let z : ◌≡◌ {A = Bool} false true = cc in false_true z
     go (Err x) h k = h ∙ ap Err (same_refusal (sym k))
 
 -- and hands on of one that is not: its sequence, which is sound
@@ -328,7 +331,7 @@ unfolding checked_of
 accepted query {s} e = go (check_of query) refl e
   where
     go : (o : Outcome) → check_of query ≡ o → Ok s ≡ and_then o (Ok (sequence_of query)) → Accepted query s
-    go (Ok tt) h k =
+    go (Ok _) h k =
         let q : s ≡ sequence_of query = cc in
         record { done = h; long = (check_done query h).0; same = q; sound = subst IsSound (sym q) (check_done query h).1 }
     go (Err x) h k = let z : ◌≡◌ {A = Bool} false true = cc in false_true z

@@ -21,7 +21,7 @@ of_length l w = Ok (record { length = l; uniqueness = w })
 
 -- what comes after an outcome: the same refusal, or x
 abbrev pub and_then : {A : Type 0} → Outcome → Result A Refusal → Result A Refusal
-and_then (Ok tt) x = x
+and_then (Ok _) x = x
 and_then (Err r) x = Err r
 
 -- the number of the refusal, 0 where the call is not refused, and the values that go with it
@@ -68,7 +68,7 @@ placed (Some i) = i ∷ []
 placed None = []
 
 abbrev pub outcome_answer : Outcome → Answer
-outcome_answer (Ok tt) = granted []
+outcome_answer (Ok _) = granted []
 outcome_answer (Err r) = refusal r
 
 -- whether a register is the only one, as a value

@@ -34,7 +34,7 @@ fault_of s =
     (pick (zero_from s.count max_terms s.terms) (Ok tt) (Err R.Padding))))
 
 abbrev pub is_sound : Outcome → Bool
-is_sound (Ok tt) = true
+is_sound (Ok _) = true
 is_sound (Err r) = false
 
 -- ---- opening, pushing

@@ -3,6 +3,7 @@
 use mathlib.Core.Path.{refl, sym, ◌∙◌}
 use Prim.Native.Nat.{◌≤◌}
 use borrow.Author.Rules.{rules}
+use Rattle.std.proofs.lemmas.Result.{err_from_is_err_and}
 use borrow.Author.Tests.{lt-ltb, le-ltb, eq-eqb, ne_eqb}
 use Rattle.sequence.specs.Limits.{max_modulus}
 use Rattle.sequence.proofs.Laws.{inside}
@@ -55,21 +56,23 @@ pub fill-requires : goal.fill-requires
 fill-requires c =
     let v = c.args in
     let limits : (2 ≤ v.modulus) × (v.modulus ≤ max_modulus) = inside v.modulus (sym c.outside.ensures ∙ c.if-outside.false) in
-    let fine : IsFine v.modulus v.length (a_cells v.a.now) (b_cells v.b.now) = fine_of _ _ _ _ (sym c.find_flaw-o.ensures ∙ c.in-Done.is) in
+    let fine : IsFine v.modulus v.length (a_cells v.a.now) (b_cells v.b.now) = fine_of _ _ _ _ (sym c.find_flaw.ensures ∙ c.in_ok-find_flaw.was) in
     record { m_nonzero = search rules; by_index = fine.coefficients.below_b }
 
-pub returns-in-Refused : goal.returns-in-Refused
+pub returns-in_err-find_flaw : goal.returns-in_err-find_flaw
 unfolding generate_of
-returns-in-Refused c =
+returns-in_err-find_flaw c =
     let v = c.args in
-    generate_told v.modulus v.a.now v.b.now v.length v.out.now
-    (simp (eq-eqb _ _ c.if-a-ne-A_BYTES.false, eq-eqb _ _ c.if-b-ne-B_BYTES.false, eq-eqb _ _ c.if-odd-ne0.false, ← c.outside.ensures, c.if-outside.false, le-ltb _ _ c.if-n-gt-TERMS.false, ← c.find_flaw-o.ensures, c.in-Refused.is))
-    refl
+    let p = err_from_is_err_and c.from_residual.result c.from_residual.ensures.1 in
+    rw (p.1, p.2)
+    (generate_told v.modulus v.a.now v.b.now v.length v.out.now
+    (simp (eq-eqb _ _ c.if-a-ne-A_BYTES.false, eq-eqb _ _ c.if-b-ne-B_BYTES.false, eq-eqb _ _ c.if-odd-ne0.false, ← c.outside.ensures, c.if-outside.false, le-ltb _ _ c.if-n-gt-TERMS.false, ← c.find_flaw.ensures, c.in_err-find_flaw.was))
+    refl)
 
-pub returns-in-Done : goal.returns-in-Done
+pub returns : goal.returns
 unfolding generate_of
-returns-in-Done c =
+returns c =
     let v = c.args in
     generate_told v.modulus v.a.now v.b.now v.length v.out.now
-    (simp (eq-eqb _ _ c.if-a-ne-A_BYTES.false, eq-eqb _ _ c.if-b-ne-B_BYTES.false, eq-eqb _ _ c.if-odd-ne0.false, ← c.outside.ensures, c.if-outside.false, le-ltb _ _ c.if-n-gt-TERMS.false, ← c.find_flaw-o.ensures, c.in-Done.is))
+    (simp (eq-eqb _ _ c.if-a-ne-A_BYTES.false, eq-eqb _ _ c.if-b-ne-B_BYTES.false, eq-eqb _ _ c.if-odd-ne0.false, ← c.outside.ensures, c.if-outside.false, le-ltb _ _ c.if-n-gt-TERMS.false, ← c.find_flaw.ensures, c.in_ok-find_flaw.was))
     c.fill.ensures

@@ -1,7 +1,9 @@
 -- `candidate::verify` meets its contract: each reply is the one that its tests pick, and a query that is not refused is sound.
 -- Assumes nothing.
+use mathlib.Core.Path.{sym, ◌∙◌}
 use borrow.Author.Tests.{eq-eqb, ne_eqb}
-use Rattle.sequence.proofs.Laws.{checked, accepted}
+use Rattle.std.proofs.lemmas.Result.{err_from_is_err_and}
+use Rattle.sequence.proofs.Laws.{checked_refused, accepted}
 use Rattle.candidate.specs.Rules.{verify_of}
 use Rattle.candidate.proofs.Answers.{verify_told}
 use Rattle.candidate.proofs.verify.Goals as goal
@@ -18,21 +20,23 @@ returns-then-b-ne-B_BYTES c =
     let v = c.args in
     verify_told v.query.now v.a.now v.b.now v.length (simp (eq-eqb _ _ c.if-a-ne-A_BYTES.false, ne_eqb _ _ c.if-b-ne-B_BYTES.true))
 
+pub returns-in_err-s : goal.returns-in_err-s
+unfolding verify_of
+returns-in_err-s c =
+    let v = c.args in
+    let p = err_from_is_err_and c.from_residual.result c.from_residual.ensures.1 in
+    rw (p.1, p.2)
+    (verify_told v.query.now v.a.now v.b.now v.length
+    (simp (eq-eqb _ _ c.if-a-ne-A_BYTES.false, eq-eqb _ _ c.if-b-ne-B_BYTES.false, checked_refused _ (sym c.in_err-s.was ∙ c.check.ensures))))
+
 pub judge-requires : goal.judge-requires
 judge-requires c =
-    ((accepted _ c.check-c.ensures c.in-Done.is).sound, c.if-a-ne-A_BYTES.false, c.if-b-ne-B_BYTES.false)
+    ((accepted _ (sym c.in_ok-s.was ∙ c.check.ensures)).sound, c.if-a-ne-A_BYTES.false, c.if-b-ne-B_BYTES.false)
 
-pub returns-in-Refused : goal.returns-in-Refused
+pub returns : goal.returns
 unfolding verify_of
-returns-in-Refused c =
+returns c =
     let v = c.args in
+    let q = accepted _ (sym c.in_ok-s.was ∙ c.check.ensures) in
     verify_told v.query.now v.a.now v.b.now v.length
-    (simp (eq-eqb _ _ c.if-a-ne-A_BYTES.false, eq-eqb _ _ c.if-b-ne-B_BYTES.false, ← checked _ c.check-c.ensures, c.in-Refused.is))
-
-pub returns-in-Done : goal.returns-in-Done
-unfolding verify_of
-returns-in-Done c =
-    let v = c.args in
-    let done = c.in-Done.is in
-    verify_told v.query.now v.a.now v.b.now v.length
-    (simp (eq-eqb _ _ c.if-a-ne-A_BYTES.false, eq-eqb _ _ c.if-b-ne-B_BYTES.false, ← checked _ c.check-c.ensures, done, ← (accepted _ c.check-c.ensures done).same) c.judge.ensures)
+    (simp (eq-eqb _ _ c.if-a-ne-A_BYTES.false, eq-eqb _ _ c.if-b-ne-B_BYTES.false, q.done, ← q.same) c.judge.ensures)
