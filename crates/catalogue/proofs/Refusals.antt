@@ -19,10 +19,10 @@ use Rattle.sequence.specs.declared.Refusal.TheVariants as R
 use Rattle.sequence.specs.Limits.{a_bytes, b_bytes}
 use Rattle.sequence.specs.Answers.{refusal, Outcome, and_then}
 use Rattle.sequence.specs.Rules.{sequence_of, check_of}
-use Rattle.sequence.proofs.Laws.{same_number, check_small}
+use Rattle.sequence.proofs.Laws.{same_number, check_small, refused_as}
 use Rattle.candidate.specs.Rules.{verify_of, Verdict}
 use Rattle.candidate.proofs.Testing.{verify_judges}
-use Rattle.catalogue.specs.Rules.{record_bytes, a_place, b_place, length_cell, synthesize_of, records, record_at, first_match, match_of, is_yes, passes, serve_of, fetch_of, look_up_of}
+use Rattle.catalogue.specs.Rules.{record_bytes, a_place, b_place, length_cell, synthesize_of, records, record_at, first_match, match_of, is_yes, passes, serve_of, fetch_of, look_up_of, LookedUp}
 use Rattle.catalogue.proofs.Places.{record_size}
 
 -- ---- making
@@ -43,9 +43,6 @@ synthesize_refused query out {r} h other = go (eqb (length out) record_bytes) re
 
 -- ---- looking up
 
-refused_same : {r r' : Refusal} → Err r ≡ Err r' → Err r ≡ Err r'
-refused_same h = cc
-
 pub look_up_query : (query catalogue out : List ℕ) {r : Refusal} → length out ≡ record_bytes → check_of query ≡ Err r → look_up_of query catalogue out ≡ Err r
 unfolding look_up_of
 look_up_query query catalogue out h k = rw (eq-eqb (length out) record_bytes h, k)
@@ -53,7 +50,7 @@ look_up_query query catalogue out h k = rw (eq-eqb (length out) record_bytes h, 
 -- a refusal other than 5 for the record is the query's, or 23 or 24
 pub record LookUpRefused (query catalogue out : List ℕ) (r : Refusal) : Type 0 where
   pub size : length out ≡ record_bytes
-  pub source : (check_of query ≡ Err r) ⊎ ((Err R.Catalogue ≡ Err r) ⊎ (Err R.Record ≡ Err r))
+  pub source : (check_of query ≡ Err r) ⊎ (◌≡◌ {A = Outcome} (Err R.Catalogue) (Err r) ⊎ ◌≡◌ {A = Outcome} (Err R.Record) (Err r))
 
 pub look_up_refused :
     (query catalogue out : List ℕ) {r : Refusal} → look_up_of query catalogue out ≡ Err r → ((refusal r).number ≡ 5 → ⊥) → LookUpRefused query catalogue out r
@@ -64,16 +61,16 @@ look_up_refused query catalogue out {r} h other =
     k : ℕ
     k = first_match query catalogue (records catalogue)
 
-    served : (j : ℕ) (g : Bool) → length out ≡ record_bytes → pick g (Ok (Some j)) (Err R.Record) ≡ Err r → LookUpRefused query catalogue out r
+    served : (j : ℕ) (g : Bool) → length out ≡ record_bytes → ◌≡◌ {A = LookedUp} (pick g (Ok (Some j)) (Err R.Record)) (Err r) → LookUpRefused query catalogue out r
     served j true l q = let z : ◌≡◌ {A = ℕ} 0 1 = cc in absurd (omega arith)
-    served j false l q = record { size = l; source = inr (inr (refused_same q)) }
+    served j false l q = record { size = l; source = inr (inr (refused_as q)) }
 
     go :
         (b : Bool) (o : Outcome) (d : Bool) (f : Option ℕ) → eqb (length out) record_bytes ≡ b → check_of query ≡ o →
         pick b (and_then o (pick d (serve_of (sequence_of query) catalogue f) (Err R.Catalogue))) (Err R.Buffer) ≡ Err r → LookUpRefused query catalogue out r
-    go false o d f e e' q = absurd (other (sym (same_number (refused_same q))))
-    go true (Err s) d f e e' q = record { size = eqb-true _ _ e; source = inl (e' ∙ refused_same q) }
-    go true (Ok _) false f e e' q = record { size = eqb-true _ _ e; source = inr (inl (refused_same q)) }
+    go false o d f e e' q = absurd (other (sym (same_number (refused_as q))))
+    go true (Err s) d f e e' q = record { size = eqb-true _ _ e; source = inl (e' ∙ refused_as q) }
+    go true (Ok _) false f e e' q = record { size = eqb-true _ _ e; source = inr (inl (refused_as q)) }
     go true (Ok _) true None e e' q = let z : ◌≡◌ {A = ℕ} 0 1 = cc in absurd (omega arith)
     go true (Ok _) true (Some j) e e' q = served j (passes (sequence_of query) (record_at catalogue j)) (eqb-true _ _ e) q
 
@@ -104,8 +101,8 @@ fails_look_up query catalogue out h =
     k : ℕ
     k = first_match query catalogue (records catalogue)
 
-    other : {A : Type 0} {r : Refusal} → ((refusal r).number ≡ 24 → ⊥) → Err r ≡ Err R.Record → A
-    other n q = absurd (n (same_number (refused_same q)))
+    other : {A : Type 0} {r : Refusal} → ((refusal r).number ≡ 24 → ⊥) → ◌≡◌ {A = LookedUp} (Err r) (Err R.Record) → A
+    other n q = absurd (n (same_number (refused_as q)))
 
     go :
         (b : Bool) (o : Outcome) (d f g : Bool) → eqb (length out) record_bytes ≡ b → check_of query ≡ o → eqb (length catalogue % record_bytes) 0 ≡ d
@@ -117,7 +114,7 @@ fails_look_up query catalogue out h =
     go true (Ok _) false f g b' o' d' f' g' q = other (λ n. omega arith) q
     go true (Ok _) true false g b' o' d' f' g' q = let z : ◌≡◌ {A = ℕ} 0 1 = cc in absurd (omega arith)
     go true (Ok _) true true true b' o' d' f' g' q =
-        let e : Ok (Some k) ≡ Err R.Record = ap (λ (x : Bool). pick x (Ok (Some k)) (Err R.Record)) (sym g') ∙ q in
+        let e : ◌≡◌ {A = LookedUp} (Ok (Some k)) (Err R.Record) = ap (λ (x : Bool). pick x (Ok (Some k)) (Err R.Record)) (sym g') ∙ q in
         let z : ◌≡◌ {A = ℕ} 0 1 = cc in
         absurd (omega arith)
     go true (Ok _) true true false b' o' d' f' g' q =

@@ -1,10 +1,11 @@
 -- Records and catalogues (the paper's shelf): the record made of a query, and what looking one up replies.
 -- Assumes nothing.
-use Rattle.std.specs.Prelude.{Bool, true, false, not, List, [], ◌∷◌, ◌++◌, ℕ, ◌*◌, ◌/◌, ◌%◌, ltb, eqb, length, take, drop, Option, Some, None, Ok, Err}
+use Rattle.std.specs.Prelude.{Bool, true, false, not, List, [], ◌∷◌, ◌++◌, ℕ, ◌*◌, ◌/◌, ◌%◌, ltb, eqb, length, take, drop, Option, Some, None, Ok, Err, Result, is_none}
 use Rattle.lists.specs.Choice.{pick, both}
 use Rattle.lists.specs.Search.{first}
 use Rattle.cells.specs.Cell.{cell_at, bytes_of, equal}
 use Rattle.sequence.specs.declared.Sequence.{Sequence}
+use Rattle.sequence.specs.declared.Refusal.{Refusal}
 use Rattle.sequence.specs.declared.Refusal.TheVariants as R
 use Rattle.sequence.specs.Limits.{query_bytes, a_bytes, b_bytes}
 use Rattle.sequence.specs.Answers.{Answer, granted, refused, refusal, first_of, Outcome, and_then}
@@ -52,6 +53,10 @@ synthesize_answer query out = first_of ((not (eqb (length out) record_bytes), re
 
 -- ---- looking up
 
+-- the number of the record found, or none where one is made
+abbrev pub LookedUp : Type 0
+LookedUp = Result (Option ℕ) Refusal
+
 -- a record found has its place as value, one made has none
 abbrev pub looked_up_answer : LookedUp → Answer
 looked_up_answer (Ok None) = granted []
@@ -77,8 +82,7 @@ abbrev pub match_of : ℕ → ℕ → Option ℕ
 match_of n i = pick (ltb i n) (Some i) None
 
 abbrev pub is_yes : Verdict → Bool
-is_yes (Ok None) = true
-is_yes (Ok (Some i)) = false
+is_yes (Ok place) = is_none place
 is_yes (Err r) = false
 
 -- the register in a record is a well-formed candidate that passes the test against the query's sequence
@@ -96,10 +100,6 @@ fetch_of query catalogue =
     pick (eqb (length catalogue % record_bytes) 0)
     (serve_of (sequence_of query) catalogue (match_of (records catalogue) (first_match query catalogue (records catalogue))))
     (Err R.Catalogue)
-
-abbrev pub and_then : Outcome → LookedUp → LookedUp
-and_then (Ok _) t = t
-and_then (Err r) t = Err r
 
 -- 5 (query, record), 1, 2, 3, 4, 23, 24, in this order
 unfoldable pub look_up_of : List ℕ → List ℕ → List ℕ → LookedUp

@@ -1,7 +1,7 @@
 // Records and catalogues (the paper's shelf): making the record of a query, and looking one up.
 #![tactic(auto)]
 
-ghost use Rattle.std.specs.Prelude.{◌≡◌, ◌++◌, ◌+◌, ◌*◌, ◌/◌, ◌≤◌, ◌<◌, eqb, length};
+ghost use Rattle.std.specs.Prelude.{◌≡◌, Some, ◌++◌, ◌+◌, ◌*◌, ◌/◌, ◌≤◌, ◌<◌, eqb, length};
 ghost use Rattle.sequence.specs.Limits.{query_bytes};
 ghost use Rattle.lists.specs.Choice.{pick};
 ghost use Rattle.sequence.specs.Answers.{outcome_answer};
@@ -10,8 +10,7 @@ ghost use Rattle.sequence.specs.Report.{filled};
 ghost use Rattle.catalogue.specs.Word.{word_of};
 ghost use Rattle.catalogue.specs.Rules.{record_bytes, body_bytes, no_number, layout, record_of, synthesize_of, synthesize_answer, records, record_at, is_of, first_match, match_of, passes, serve_of, fetch_of, looked_up_answer, look_up_of, look_up_answer, editor, seen_by, served_in};
 
-use candidate::Verdict;
-use sequence::{A_BYTES, B_BYTES, Outcome, QUERY_BYTES, Refusal, Sequence};
+use sequence::{A_BYTES, B_BYTES, QUERY_BYTES, Refusal, Sequence};
 
 // A record is the query, the length, a, b and the accession number. a, b and the number begin at these bytes.
 pub const A_PLACE: usize = QUERY_BYTES + 2;
@@ -28,25 +27,12 @@ pub const LENGTH_CELL: usize = QUERY_BYTES / 2;
 // Who asks: an editor is this number, a visitor any other.
 pub const EDITOR: u64 = 1;
 
-#[derive(Clone, Copy)]
-pub enum LookedUp {
-    Found(usize),
-    Made,
-    Refused(Refusal),
-}
-
-#[derive(Clone, Copy)]
-enum Match {
-    At(usize),
-    Nowhere,
-}
-
 // The body of the record of a query with the sound sequence s. The part from byte 262 on is lent to the code that writes a register.
-fn write_body(query: &[u8], s: Sequence, out: &mut [u8])
-    requires { (length query.now ≡ query_bytes) × IsSound s × (length out.old ≡ body_bytes) }
-    ensures { out.new ≡ layout query.now s }
+fn write_body(query: &[u8], s: &Sequence, out: &mut [u8])
+    requires { (length query.now ≡ query_bytes) × IsSound s.now × (length out.old ≡ body_bytes) }
+    ensures { out.new ≡ layout query.now s.now }
 {
-    let x = sequence::solve(s);
+    let x = s.solve();
     cells::copy(query, &mut out[0..QUERY_BYTES]);
     cells::put(&mut out[QUERY_BYTES..A_PLACE], 0, x.length);
     sequence::write_register(x, &mut out[A_PLACE..NUMBER_PLACE]);
@@ -62,9 +48,9 @@ fn hide(number: &mut [u8])
 }
 
 // The record of a query with the sound sequence s, with no accession number yet.
-pub fn write_record(query: &[u8], s: Sequence, out: &mut [u8])
-    requires { (length query.now ≡ query_bytes) × IsSound s × (length out.old ≡ record_bytes) }
-    ensures { out.new ≡ layout query.now s ++ no_number }
+pub fn write_record(query: &[u8], s: &Sequence, out: &mut [u8])
+    requires { (length query.now ≡ query_bytes) × IsSound s.now × (length out.old ≡ record_bytes) }
+    ensures { out.new ≡ layout query.now s.now ++ no_number }
 {
     write_body(query, s, &mut out[0..NUMBER_PLACE]);
     hide(&mut out[NUMBER_PLACE..RECORD_BYTES]);
@@ -72,24 +58,17 @@ pub fn write_record(query: &[u8], s: Sequence, out: &mut [u8])
 
 // Makes the record of a query.
 // Rejected: one that refuses every query; one whose register is 1 for every query.
-pub fn synthesize(query: &[u8], out: &mut [u8]) -> Outcome
+pub fn synthesize(query: &[u8], out: &mut [u8]) -> Result<(), Refusal>
     ensures value { result ≡ synthesize_of query.now out.old }
     ensures out_after { out.new ≡ filled result (record_of query.now) out.old }
     ensures result_value { outcome_answer result ≡ synthesize_answer query.now out.old }
 {
     if out.len() != RECORD_BYTES {
-        return Outcome::Refused(Refusal::Buffer);
+        return Err(Refusal::Buffer);
     }
-    let c = sequence::check(query);
-    let o = c.outcome;
-    match o {
-        Outcome::Refused(r) => Outcome::Refused(r),
-        Outcome::Done => {
-            let s = c.sequence;
-            write_record(query, s, out);
-            Outcome::Done
-        }
-    }
+    let s = sequence::check(query)?;
+    write_record(query, &s, out);
+    Ok(())
 }
 
 fn wide(x: u8) -> u64
@@ -121,26 +100,24 @@ pub fn is_of(query: &[u8], entry: &[u8]) -> bool
 }
 
 // The first record of the query.
-fn find(query: &[u8], catalogue: &[u8]) -> Match
+fn find(query: &[u8], catalogue: &[u8]) -> Option<usize>
     requires { length query.now ≡ query_bytes }
     ensures { result ≡ match_of (records catalogue.now) (first_match query.now catalogue.now (records catalogue.now)) }
 {
     let n = catalogue.len() / RECORD_BYTES;
-    let mut i: usize = 0;
-    while i < n {
+    for i in 0..n {
         let at = i * RECORD_BYTES;
         if is_of(query, &catalogue[at..at + RECORD_BYTES]) {
-            return Match::At(i);
+            return Some(i);
         }
-        i += 1;
     }
-    Match::Nowhere
+    None
 }
 
 // Whether the register in a record passes the test against the query's sequence.
-pub fn is_good(s: Sequence, entry: &[u8]) -> bool
-    requires { IsSound s × (length entry.now ≡ record_bytes) }
-    ensures { result ≡ passes s entry.now }
+pub fn is_good(s: &Sequence, entry: &[u8]) -> bool
+    requires { IsSound s.now × (length entry.now ≡ record_bytes) }
+    ensures { result ≡ passes s.now entry.now }
 {
     let l = cells::cell(entry, LENGTH_CELL);
     let v = candidate::judge(
@@ -150,9 +127,8 @@ pub fn is_good(s: Sequence, entry: &[u8]) -> bool
         l,
     );
     match v {
-        Verdict::Yes => true,
-        Verdict::No(_) => false,
-        Verdict::Refused(_) => false,
+        Ok(place) => place.is_none(),
+        Err(_) => false,
     }
 }
 
@@ -182,57 +158,64 @@ pub fn show(entry: &[u8], who: u64, out: &mut [u8])
 }
 
 // Serves record i.
-fn serve(s: Sequence, catalogue: &[u8], who: u64, out: &mut [u8], i: usize) -> LookedUp
-    requires { IsSound s × (i < length catalogue.now / record_bytes) × (length out.old ≡ record_bytes) }
-    ensures value { result ≡ serve_of s catalogue.now (Match.At i) }
-    ensures out_after { out.new ≡ pick (passes s (record_at catalogue.now i)) (seen_by who (record_at catalogue.now i)) out.old }
+fn serve(
+    s: &Sequence,
+    catalogue: &[u8],
+    who: u64,
+    out: &mut [u8],
+    i: usize,
+) -> Result<Option<usize>, Refusal>
+    requires { IsSound s.now × (i < length catalogue.now / record_bytes) × (length out.old ≡ record_bytes) }
+    ensures value { result ≡ serve_of s.now catalogue.now (Some i) }
+    ensures out_after { out.new ≡ pick (passes s.now (record_at catalogue.now i)) (seen_by who (record_at catalogue.now i)) out.old }
 {
     let at = i * RECORD_BYTES;
     let entry = &catalogue[at..at + RECORD_BYTES];
     if is_good(s, entry) {
         show(entry, who, out);
-        return LookedUp::Found(i);
+        return Ok(Some(i));
     }
-    LookedUp::Refused(Refusal::Record)
+    Err(Refusal::Record)
 }
 
 // The record of a query that passed its checks, found or made; s is its sequence.
-fn fetch(query: &[u8], s: Sequence, catalogue: &[u8], who: u64, out: &mut [u8]) -> LookedUp
-    requires { (length query.now ≡ query_bytes) × (s ≡ sequence_of query.now) × IsSound s × (length out.old ≡ record_bytes) }
+fn fetch(
+    query: &[u8],
+    s: &Sequence,
+    catalogue: &[u8],
+    who: u64,
+    out: &mut [u8],
+) -> Result<Option<usize>, Refusal>
+    requires { (length query.now ≡ query_bytes) × (s.now ≡ sequence_of query.now) × IsSound s.now × (length out.old ≡ record_bytes) }
     ensures value { result ≡ fetch_of query.now catalogue.now }
     ensures out_after { out.new ≡ served_in who result query.now catalogue.now out.old }
 {
     let odd = catalogue.len() % RECORD_BYTES;
     if odd != 0 {
-        return LookedUp::Refused(Refusal::Catalogue);
+        return Err(Refusal::Catalogue);
     }
-    let f = find(query, catalogue);
-    match f {
-        Match::At(i) => serve(s, catalogue, who, out, i),
-        Match::Nowhere => {
-            write_record(query, s, out);
-            LookedUp::Made
-        }
-    }
+    let Some(i) = find(query, catalogue) else {
+        write_record(query, s, out);
+        return Ok(None);
+    };
+    serve(s, catalogue, who, out, i)
 }
 
-// Looks a query up in a catalogue for who asks: the first record with this query, or one made.
+// Looks a query up in a catalogue for who asks: the first record with this query, with its number among the records, or one made.
 // Rejected: one that says made before it looks; one that matches the terms without modulus and count; one that takes 257 for an editor.
-pub fn look_up(query: &[u8], catalogue: &[u8], who: u64, out: &mut [u8]) -> LookedUp
+pub fn look_up(
+    query: &[u8],
+    catalogue: &[u8],
+    who: u64,
+    out: &mut [u8],
+) -> Result<Option<usize>, Refusal>
     ensures value { result ≡ look_up_of query.now catalogue.now out.old }
     ensures out_after { out.new ≡ served_in who result query.now catalogue.now out.old }
     ensures result_value { looked_up_answer result ≡ look_up_answer query.now catalogue.now out.old }
 {
     if out.len() != RECORD_BYTES {
-        return LookedUp::Refused(Refusal::Buffer);
+        return Err(Refusal::Buffer);
     }
-    let c = sequence::check(query);
-    let o = c.outcome;
-    match o {
-        Outcome::Refused(r) => LookedUp::Refused(r),
-        Outcome::Done => {
-            let s = c.sequence;
-            fetch(query, s, catalogue, who, out)
-        }
-    }
+    let s = sequence::check(query)?;
+    fetch(query, &s, catalogue, who, out)
 }

@@ -12,12 +12,17 @@ returns-then-odd-ne0 c = record { value = simp (ne_eqb _ _ c.if-odd-ne0.true); o
 
 pub serve-requires : goal.serve-requires
 serve-requires c =
-    (c.requires.2, match_below _ _ _ (sym c.find-f.ensures ∙ c.in-At.is), c.requires.3)
+    (c.requires.2, match_below _ _ _ (sym c.find.ensures ∙ c.in-Some.is), c.requires.3)
 
-pub returns-in-At : goal.returns-in-At
+pub returns : goal.returns
 unfolding fetch_of
-returns-in-At c = record { value = simp (eq-eqb _ _ c.if-odd-ne0.false, ← c.find-f.ensures, c.in-At.is, ← c.requires.1) c.serve.ensures.value; out_after = is_served c.args.s c.args.query.now c.args.catalogue.now c.args.who c.args.out.now c.in-At.i c.serve.ensures.value c.serve.ensures.out_after }
+returns c =
+    let v = c.args in record {
+      value = simp (eq-eqb _ _ c.if-odd-ne0.false, ← c.find.ensures, c.in-Some.is, ← c.requires.1) c.serve.ensures.value;
+      out_after = is_served v.s.now v.query.now v.catalogue.now v.who v.out.now c.in-Some.i c.serve.ensures.value c.serve.ensures.out_after;
+    }
 
-pub returns-in-Nowhere : goal.returns-in-Nowhere
+pub returns-in_default : goal.returns-in_default
 unfolding fetch_of
-returns-in-Nowhere c = record { value = simp (eq-eqb _ _ c.if-odd-ne0.false, ← c.find-f.ensures, c.in-Nowhere.is); out_after = c.write_record.ensures ∙ is_made _ _ c.requires.1 }
+returns-in_default c =
+    record { value = simp (eq-eqb _ _ c.if-odd-ne0.false, ← c.find.ensures, c.in_default.is); out_after = c.write_record.ensures ∙ is_made _ _ c.requires.1 }

@@ -9,7 +9,3 @@ use Rattle.catalogue.proofs.find.Given as goal
 abbrev pub invariant-loop-i : goal.invariant-loop-i
 invariant-loop-i l =
     (l.i ≤ l.n) × ((j : ℕ) → j < l.i → is_of l.query (record_at l.catalogue j) ≡ false)
-
-abbrev pub decreases-loop-i : goal.decreases-loop-i
-decreases-loop-i l =
-    l.n - l.i

@@ -23,4 +23,4 @@ returns c =
     let copied = c.copy in
     let put = c.put in
     let written = c.write_register in
-    is_body c.args.out.now _ _ _ _ c.args.s c.solve-x.result c.requires.2 c.requires.0 copied.ensures put.ensures written.ensures c.solve-x.ensures
+    is_body c.args.out.now _ _ _ _ c.args.s.now c.solve-x.result c.requires.2 c.requires.0 copied.ensures put.ensures written.ensures c.solve-x.ensures

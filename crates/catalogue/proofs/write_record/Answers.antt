@@ -15,4 +15,4 @@ returns c =
     let filled = c.write_body in
     let hidden = c.hide in
     ap₂ (λ (b n : List ℕ). put_mid body_bytes 2 (b ++ post_of 0 body_bytes v.out.now) n) filled.ensures hidden.ensures
-    ∙ is_record v.out.now (layout v.query.now v.s) no_number c.requires.2 (layout_long v.query.now v.s c.requires.0)
+    ∙ is_record v.out.now (layout v.query.now v.s.now) no_number c.requires.2 (layout_long v.query.now v.s.now c.requires.0)
