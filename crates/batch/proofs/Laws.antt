@@ -6,7 +6,7 @@ use Prim.Native.Nat.{ℕ, ◌*◌, ◌<◌}
 use native.Mathlib.Omega.{arith}
 use lib.ListN.{length, drop, replicate, length-drop}
 use lib.Seq.{length-take-le}
-use Rattle.std.specs.Prelude.{Some, None, Ok, Err}
+use Rattle.std.specs.Prelude.{Result, Some, None, Ok, Err}
 use Rattle.lists.specs.Sum.{sum_to}
 use Rattle.lists.specs.Table.{at, tabulate}
 use Rattle.lists.proofs.Sum.{sum_to_eq}
@@ -14,6 +14,7 @@ use Rattle.lists.proofs.Table.{at_tabulate, length_tabulate, tabulate_eq}
 use Rattle.sequence.specs.declared.Refusal.{Refusal}
 use Rattle.sequence.specs.Limits.{query_bytes}
 use Rattle.sequence.specs.Answers.{granted, Outcome}
+use Rattle.sequence.specs.Report.{filled}
 use Rattle.catalogue.specs.Rules.{record_bytes, record_at, records, body, look_up_of, look_up_answer, editor, served_in, LookedUp}
 use Rattle.catalogue.proofs.Laws.{look_up_lent}
 use Rattle.catalogue.proofs.Places.{served_size}
@@ -21,7 +22,7 @@ use Rattle.catalogue.proofs.Answers.{look_up_told}
 use Rattle.catalogue.proofs.Visitors.{reply_same, bytes_same}
 use Rattle.codes.specs.Codes.{code_of, counts_code_of}
 use Rattle.batch.specs.declared.Batch.{Batch}
-use Rattle.batch.specs.Rules.{query_at, queries_in, zero_record, alone_of, part_of, reply_code, is_found, is_made, is_refused, count_kind, refused_whole, reply_by, look_up_batch_of, batch_answer, look_up_batch_answer, end_to_end, batched_in, parts_in, replies_in}
+use Rattle.batch.specs.Rules.{query_at, queries_in, zero_record, alone_of, part_of, reply_code, is_found, is_made, is_refused, count_kind, refused_whole, reply_by, look_up_batch_of, batch_answer, look_up_batch_answer, end_to_end, parts_in, replies_in, outcome_of}
 use Rattle.batch.proofs.Parts.{zero_long, end_to_end_eq, end_to_end_long, at_end_to_end}
 use Rattle.batch.proofs.Whole.{reply_by_lem, answer_told}
 
@@ -29,13 +30,18 @@ use Rattle.batch.proofs.Whole.{reply_by_lem, answer_told}
 
 pub outcome_is :
     (queries catalogue out replies : List ℕ)
-    → (look_up_batch_of queries catalogue out replies).outcome ≡ refused_whole (length queries) (length catalogue) (length out) (length replies)
-outcome_is queries catalogue out replies = ap (λ (b : Batch). b.outcome) (reply_by_lem queries catalogue out replies _ refl) ∙ go _
+    → outcome_of (look_up_batch_of queries catalogue out replies) ≡ refused_whole (length queries) (length catalogue) (length out) (length replies)
+outcome_is queries catalogue out replies = ap (λ (b : Result Batch Refusal). outcome_of b) (reply_by_lem queries catalogue out replies _ refl) ∙ go _
   where
     go : (o : Outcome)
-        → (reply_by o (count_kind is_found queries catalogue) (count_kind is_made queries catalogue) (count_kind is_refused queries catalogue)).outcome ≡ o
+        → outcome_of (reply_by o (count_kind is_found queries catalogue) (count_kind is_made queries catalogue) (count_kind is_refused queries catalogue)) ≡ o
     go (Ok _) = refl
     go (Err r) = refl
+
+-- and says whether a buffer is filled
+filled_by : (b : Result Batch Refusal) (now lent : List ℕ) → filled b now lent ≡ filled (outcome_of b) now lent
+filled_by (Ok x) now lent = refl
+filled_by (Err r) now lent = refl
 
 -- ---- each query
 
@@ -77,13 +83,13 @@ part_size who queries catalogue i h = served_size who (query_at queries i) catal
 
 -- ---- the buffers where the whole call is not refused
 
-module _ (queries catalogue out replies : List ℕ) (done : (look_up_batch_of queries catalogue out replies).outcome ≡ Ok tt) where
+module _ (queries catalogue out replies : List ℕ) (done : outcome_of (look_up_batch_of queries catalogue out replies) ≡ Ok tt) where
   parts_are : (who : ℕ) → parts_in who (look_up_batch_of queries catalogue out replies) queries catalogue out ≡ end_to_end (queries_in queries) (λ i. part_of who (query_at queries i) catalogue)
-  parts_are who = ap (λ (o : Outcome). batched_in o (end_to_end (queries_in queries) (λ i. part_of who (query_at queries i) catalogue)) out) done
+  parts_are who = filled_by (look_up_batch_of queries catalogue out replies) _ _ ∙ ap (λ (o : Outcome). filled o (end_to_end (queries_in queries) (λ i. part_of who (query_at queries i) catalogue)) out) done
 
   replies_are :
       replies_in (look_up_batch_of queries catalogue out replies) queries catalogue replies ≡ tabulate (queries_in queries) (λ i. reply_code (alone_of (query_at queries i) catalogue))
-  replies_are = ap (λ (o : Outcome). batched_in o (tabulate (queries_in queries) (λ i. reply_code (alone_of (query_at queries i) catalogue))) replies) done
+  replies_are = filled_by (look_up_batch_of queries catalogue out replies) _ _ ∙ ap (λ (o : Outcome). filled o (tabulate (queries_in queries) (λ i. reply_code (alone_of (query_at queries i) catalogue))) replies) done
 
   pub part_at :
       (who i : ℕ) → i < queries_in queries → record_at (parts_in who (look_up_batch_of queries catalogue out replies) queries catalogue out) i ≡ part_of who (query_at queries i) catalogue
@@ -105,12 +111,11 @@ module _ (queries catalogue out replies : List ℕ) (done : (look_up_batch_of qu
   -- and the counts
   pub counts_are :
       look_up_batch_of queries catalogue out replies
-      ≡ record {
+      ≡ Ok (record {
         found = count_kind is_found queries catalogue;
         made = count_kind is_made queries catalogue;
         refused = count_kind is_refused queries catalogue;
-        outcome = Ok tt;
-      }
+      })
   counts_are = reply_by_lem queries catalogue out replies (Ok tt) (sym (outcome_is queries catalogue out replies) ∙ done)
 
   pub counts_code :
@@ -149,7 +154,7 @@ module _ (queries c c' : List ℕ) (size : length c ≡ length c') (bodies : (i 
   pub replies_same :
       (out replies : List ℕ) → replies_in (look_up_batch_of queries c out replies) queries c replies ≡ replies_in (look_up_batch_of queries c' out replies) queries c' replies
   replies_same out replies =
-      ap₂ (λ (b : Batch) (x : List ℕ). batched_in b.outcome x replies) (batch_same out replies)
+      ap₂ (λ (b : Result Batch Refusal) (x : List ℕ). filled b x replies) (batch_same out replies)
       (tabulate_eq (queries_in queries) (λ i. reply_code (alone_of (query_at queries i) c)) (λ i. reply_code (alone_of (query_at queries i) c'))
       (λ i l. ap reply_code (alone_same i)))
 
@@ -158,6 +163,6 @@ module _ (queries c c' : List ℕ) (size : length c ≡ length c') (bodies : (i 
       → parts_in who (look_up_batch_of queries c out replies) queries c out ≡ parts_in who (look_up_batch_of queries c' out replies) queries c' out
   unfolding part_of alone_of
   records_same who out replies visitor =
-      ap₂ (λ (b : Batch) (x : List ℕ). batched_in b.outcome x out) (batch_same out replies)
+      ap₂ (λ (b : Result Batch Refusal) (x : List ℕ). filled b x out) (batch_same out replies)
       (end_to_end_eq (queries_in queries) (λ i. part_of who (query_at queries i) c) (λ i. part_of who (query_at queries i) c')
       (λ i l. bytes_same (query_at queries i) c c' size bodies who zero_record visitor))

@@ -9,7 +9,7 @@ use native.Mathlib.Omega.{arith}
 use lib.Dec.{ltb, eqb}
 use lib.ListN.{length, take, drop, replicate, length-replicate}
 use borrow.Author.Tests.{eqb-true, ltb-false}
-use Rattle.std.specs.Prelude.{Ok, Err}
+use Rattle.std.specs.Prelude.{Result, Ok, Err}
 use Rattle.lists.specs.Choice.{pick}
 use Rattle.lists.specs.Table.{at, tabulate}
 use Rattle.lists.proofs.Search.{both_left, both_right}
@@ -23,7 +23,7 @@ use Rattle.catalogue.proofs.Laws.{cut_record}
 use Rattle.codes.specs.Codes.{code_of, counts_code_of}
 use Rattle.codes.proofs.Laws.{counts_refused}
 use Rattle.batch.specs.declared.Batch.{Batch}
-use Rattle.batch.specs.Rules.{max_queries, query_at, queries_in, alone_of, part_of, reply_code, is_found, is_made, is_refused, count_kind, lengths_fit, refused_by, refused_whole, reply_by, look_up_batch_of, answer_by, batch_answer, look_up_batch_answer, parts_in, replies_in}
+use Rattle.batch.specs.Rules.{max_queries, query_at, queries_in, alone_of, part_of, reply_code, is_found, is_made, is_refused, count_kind, lengths_fit, refused_by, refused_whole, reply_by, look_up_batch_of, batch_answer, look_up_batch_answer, parts_in, replies_in, outcome_of}
 use Rattle.batch.specs.Walk.{held_of, held_part, Holding}
 use Rattle.batch.specs.Inner.{check_code, offered_part, offered_code, Offered, Answered, settled_part, settled_code, Settled, of_kind}
 use Rattle.batch.proofs.Parts.{zero_part, is_end_to_end}
@@ -58,7 +58,7 @@ pub done_right : (q c o r : ℕ) → refused_whole q c o r ≡ Ok tt → Right q
 unfolding refused_whole
 done_right q c o r h = go (lengths_fit q o r) (ltb max_queries (q / query_bytes)) (eqb (c % record_bytes) 0) refl refl refl h
   where
-    no : {s : Refusal} → Err s ≡ Ok tt → Right q c o r
+    no : {s : Refusal} → ◌≡◌ {A = Outcome} (Err s) (Ok tt) → Right q c o r
     no e = let z : ◌≡◌ {A = ℕ} 0 1 = cc in absurd (omega arith)
 
     go : (f m w : Bool) → lengths_fit q o r ≡ f → ltb max_queries (q / query_bytes) ≡ m → eqb (c % record_bytes) 0 ≡ w → refused_by (not f) m (not w) ≡ Ok tt → Right q c o r
@@ -147,7 +147,7 @@ answer_told queries catalogue out replies =
     go false false true = refl
     go false false false = refl
 
-abbrev Told : (queries catalogue out replies : List ℕ) (who : ℕ) (b : Batch) (out' replies' : List ℕ) → Type 0
+abbrev Told : (queries catalogue out replies : List ℕ) (who : ℕ) (b : Result Batch Refusal) (out' replies' : List ℕ) → Type 0
 Told queries catalogue out replies who b out' replies' =
     record {
       value : b ≡ look_up_batch_of queries catalogue out replies;
@@ -167,7 +167,7 @@ module _ (queries catalogue out replies : List ℕ) (who : ℕ) where
   -- each way out, with the whole promise
   pub refused_told :
       {o : Outcome} {r : Refusal} → o ≡ refused_whole (length queries) (length catalogue) (length out) (length replies) → o ≡ Err r
-      → Told queries catalogue out replies who (record { found = 0; made = 0; refused = 0; outcome = Err r }) out replies
+      → Told queries catalogue out replies who (Err r) out replies
   refused_told {o} {r} e k =
       let same = sym (reply_by_lem queries catalogue out replies (Err r) (sym e ∙ k)) in
       record { value = same; out_after = refl; replies_after = refl; result_value = ap batch_answer same ∙ answer_told queries catalogue out replies }
@@ -175,7 +175,7 @@ module _ (queries catalogue out replies : List ℕ) (who : ℕ) where
   pub done_told :
       {o : Outcome} {f m x : ℕ} {out' replies' : List ℕ} → o ≡ refused_whole (length queries) (length catalogue) (length out) (length replies) → o ≡ Ok tt
       → Answered who queries catalogue out' replies' → f ≡ of_kind 1 replies' → m ≡ of_kind 0 replies' → x ≡ of_kind 2 replies'
-      → Told queries catalogue out replies who (record { found = f; made = m; refused = x; outcome = Ok tt }) out' replies'
+      → Told queries catalogue out replies who (Ok (record { found = f; made = m; refused = x })) out' replies'
   done_told {o} {f} {m} {x} {out'} {replies'} e k a ef em ex =
       record {
         value = same;
@@ -184,65 +184,70 @@ module _ (queries catalogue out replies : List ℕ) (who : ℕ) where
         result_value = ap batch_answer same ∙ answer_told queries catalogue out replies;
       }
     where
-      counts : ◌≡◌ {A = Batch} (record { found = f; made = m; refused = x; outcome = Ok tt })
+      counts : ◌≡◌ {A = Result Batch Refusal} (Ok (record { found = f; made = m; refused = x }))
           (reply_by (Ok tt) (count_kind is_found queries catalogue) (count_kind is_made queries catalogue) (count_kind is_refused queries catalogue))
-      counts = λ i. record {
+      counts = λ i. Ok (record {
         found = (ef ∙ found_counted who queries catalogue out' replies' a) i;
         made = (em ∙ made_counted who queries catalogue out' replies' a) i;
         refused = (ex ∙ refused_counted who queries catalogue out' replies' a) i;
-        outcome = Ok tt;
-      }
+      })
 
-      same : ◌≡◌ {A = Batch} (record { found = f; made = m; refused = x; outcome = Ok tt }) (look_up_batch_of queries catalogue out replies)
+      same : ◌≡◌ {A = Result Batch Refusal} (Ok (record { found = f; made = m; refused = x })) (look_up_batch_of queries catalogue out replies)
       same = counts ∙ sym (reply_by_lem queries catalogue out replies (Ok tt) (sym e ∙ k))
 
 -- ---- the counts
 
 -- together the counts are no more than the queries that a batch may hold
 pub counts_small :
-    (queries catalogue out replies : List ℕ) {b : Batch} → b ≡ look_up_batch_of queries catalogue out replies → b.found + b.made + b.refused ≤ max_queries
+    (queries catalogue out replies : List ℕ) {b : Batch} → Ok b ≡ look_up_batch_of queries catalogue out replies → b.found + b.made + b.refused ≤ max_queries
 counts_small queries catalogue out replies {b} same = go (refused_whole (length queries) (length catalogue) (length out) (length replies)) refl
   where
+    total : Result Batch Refusal → ℕ
+    total (Ok x) = x.found + x.made + x.refused
+    total (Err r) = 0
+
     go : (o : Outcome) → refused_whole (length queries) (length catalogue) (length out) (length replies) ≡ o → b.found + b.made + b.refused ≤ max_queries
     go (Ok _) e =
-        subst (λ (b : Batch). b.found + b.made + b.refused ≤ max_queries) (sym (same ∙ reply_by_lem queries catalogue out replies (Ok tt) e))
-        (omega (arith, all_counted queries catalogue, (done_right (length queries) (length catalogue) (length out) (length replies) e).few))
-    go (Err r) e =
-        subst (λ (b : Batch). b.found + b.made + b.refused ≤ max_queries) (sym (same ∙ reply_by_lem queries catalogue out replies (Err r) e)) (omega arith)
+        omega (
+          arith,
+          ap total (same ∙ reply_by_lem queries catalogue out replies (Ok tt) e),
+          all_counted queries catalogue,
+          (done_right (length queries) (length catalogue) (length out) (length replies) e).few,
+        )
+    go (Err r) e = omega (arith, ap total (same ∙ reply_by_lem queries catalogue out replies (Err r) e))
 
 -- ---- the refusals of the whole call
 
 -- none of them carries a place
-refused_plain : (queries catalogue out replies : List ℕ) {r : Refusal} → (look_up_batch_of queries catalogue out replies).outcome ≡ Err r → (refusal r).values ≡ []
+refused_plain : (queries catalogue out replies : List ℕ) {r : Refusal} → Err r ≡ look_up_batch_of queries catalogue out replies → (refusal r).values ≡ []
 unfolding look_up_batch_of refused_whole
 refused_plain queries catalogue out replies {r} h =
     go (not (lengths_fit (length queries) (length out) (length replies))) (ltb max_queries (queries_in queries)) (not (eqb (length catalogue % record_bytes) 0)) h
   where
-    go : (f m u : Bool) → (reply_by (refused_by f m u) (count_kind is_found queries catalogue) (count_kind is_made queries catalogue) (count_kind is_refused queries catalogue)).outcome ≡ Err r
+    go : (f m u : Bool)
+        → Err r ≡ reply_by (refused_by f m u) (count_kind is_found queries catalogue) (count_kind is_made queries catalogue) (count_kind is_refused queries catalogue)
         → (refusal r).values ≡ []
-    go true m u e = sym (ap (λ (o : Outcome). (outcome_answer o).values) e)
-    go false true u e = sym (ap (λ (o : Outcome). (outcome_answer o).values) e)
-    go false false true e = sym (ap (λ (o : Outcome). (outcome_answer o).values) e)
-    go false false false e = sym (ap (λ (o : Outcome). (outcome_answer o).values) e)
+    go true m u e = ap (λ (o : Result Batch Refusal). (outcome_answer (outcome_of o)).values) e
+    go false true u e = ap (λ (o : Result Batch Refusal). (outcome_answer (outcome_of o)).values) e
+    go false false true e = ap (λ (o : Result Batch Refusal). (outcome_answer (outcome_of o)).values) e
+    go false false false e = ap (λ (o : Result Batch Refusal). (outcome_answer (outcome_of o)).values) e
 
 -- ---- the reply as one number
 
-module _ (queries catalogue out replies : List ℕ) {b : Batch} (same : b ≡ look_up_batch_of queries catalogue out replies) where
+module _ (queries catalogue out replies : List ℕ) where
   pub done_code :
-      {n : ℕ} → n ≡ counts_code_of (granted (b.found ∷ b.made ∷ b.refused ∷ [])) → b.outcome ≡ Ok tt → batch_answer b ≡ look_up_batch_answer queries catalogue out replies
+      {b : Batch} {n : ℕ} → n ≡ counts_code_of (granted (b.found ∷ b.made ∷ b.refused ∷ [])) → batch_answer (Ok b) ≡ look_up_batch_answer queries catalogue out replies
       → n ≡ counts_code_of (look_up_batch_answer queries catalogue out replies)
-  done_code e k x = e ∙ ap (λ (o : Outcome). counts_code_of (answer_by o b.found b.made b.refused)) (sym k) ∙ ap counts_code_of x
+  done_code e x = e ∙ ap counts_code_of x
 
   pub refused_code :
-      {n : ℕ} (r : Refusal) → n ≡ code_of (refusal r) → b.outcome ≡ Err r → batch_answer b ≡ look_up_batch_answer queries catalogue out replies
-      → n ≡ counts_code_of (look_up_batch_answer queries catalogue out replies)
-  refused_code r e k x =
-      e ∙ counts_refused r (refused_plain queries catalogue out replies (ap (λ (z : Batch). z.outcome) (sym same) ∙ k))
-      ∙ ap (λ (o : Outcome). counts_code_of (answer_by o b.found b.made b.refused)) (sym k)
-      ∙ ap counts_code_of x
+      {r : Refusal} {n : ℕ} → Err r ≡ look_up_batch_of queries catalogue out replies → n ≡ code_of (refusal r)
+      → batch_answer (Err r) ≡ look_up_batch_answer queries catalogue out replies → n ≡ counts_code_of (look_up_batch_answer queries catalogue out replies)
+  refused_code {r} same e x = e ∙ counts_refused r (refused_plain queries catalogue out replies same) ∙ ap counts_code_of x
 
+module _ (queries catalogue out replies : List ℕ) {b : Result Batch Refusal} (same : b ≡ look_up_batch_of queries catalogue out replies) where
   pub records_told : (who : ℕ) {x : List ℕ} → x ≡ parts_in who b queries catalogue out → x ≡ parts_in who (look_up_batch_of queries catalogue out replies) queries catalogue out
-  records_told who e = e ∙ ap (λ (z : Batch). parts_in who z queries catalogue out) same
+  records_told who e = e ∙ ap (λ (z : Result Batch Refusal). parts_in who z queries catalogue out) same
 
   pub replies_told : {x : List ℕ} → x ≡ replies_in b queries catalogue replies → x ≡ replies_in (look_up_batch_of queries catalogue out replies) queries catalogue replies
-  replies_told e = e ∙ ap (λ (z : Batch). replies_in z queries catalogue replies) same
+  replies_told e = e ∙ ap (λ (z : Result Batch Refusal). replies_in z queries catalogue replies) same

@@ -1,12 +1,14 @@
 -- A batch (the paper's bundle): queries that are looked up in one walk along a catalogue. What the call replies, and every lent buffer at exit.
 -- Assumes nothing.
-use Rattle.std.specs.Prelude.{Bool, not, List, [], ◌∷◌, ◌++◌, ℕ, zero, suc, ◌*◌, ◌/◌, ◌%◌, ltb, eqb, length, take, drop, replicate, Some, None, Ok, Err}
+use Rattle.std.specs.Prelude.{Bool, not, List, [], ◌∷◌, ◌++◌, ℕ, zero, suc, ◌*◌, ◌/◌, ◌%◌, ltb, eqb, length, take, drop, replicate, Some, None, Ok, Err, Result}
 use Rattle.lists.specs.Choice.{pick, both}
 use Rattle.lists.specs.Sum.{sum_to}
 use Rattle.lists.specs.Table.{tabulate}
+use Rattle.sequence.specs.declared.Refusal.{Refusal}
 use Rattle.sequence.specs.declared.Refusal.TheVariants as R
 use Rattle.sequence.specs.Limits.{query_bytes}
 use Rattle.sequence.specs.Answers.{Answer, granted, refused, refusal, first_of, Outcome}
+use Rattle.sequence.specs.Report.{filled}
 use Rattle.catalogue.specs.Rules.{record_bytes, looked_up_answer, look_up_of, served_in, LookedUp}
 use Rattle.codes.specs.Codes.{code_of}
 use Rattle.batch.specs.declared.Batch.{Batch}
@@ -75,24 +77,26 @@ unfoldable pub refused_whole : (queries catalogue out replies : ℕ) → Outcome
 refused_whole queries catalogue out replies =
     refused_by (not (lengths_fit queries out replies)) (ltb max_queries (queries / query_bytes)) (not (eqb (catalogue % record_bytes) 0))
 
--- the counts beside the outcome; with a refusal they are 0
-abbrev pub reply_by : Outcome → (found made refused : ℕ) → Batch
-reply_by (Ok _) found made refused = record { found = found; made = made; refused = refused; outcome = Ok tt }
-reply_by (Err r) found made refused = record { found = 0; made = 0; refused = 0; outcome = Err r }
+-- the counts, or the refusal
+abbrev pub reply_by : Outcome → (found made refused : ℕ) → Result Batch Refusal
+reply_by (Ok _) found made refused = Ok (record { found = found; made = made; refused = refused })
+reply_by (Err r) found made refused = Err r
 
-unfoldable pub look_up_batch_of : (queries catalogue out replies : List ℕ) → Batch
+-- a reply without the counts
+abbrev pub outcome_of : Result Batch Refusal → Outcome
+outcome_of (Ok b) = Ok tt
+outcome_of (Err r) = Err r
+
+unfoldable pub look_up_batch_of : (queries catalogue out replies : List ℕ) → Result Batch Refusal
 look_up_batch_of queries catalogue out replies =
     reply_by (refused_whole (length queries) (length catalogue) (length out) (length replies)) (count_kind is_found queries catalogue)
     (count_kind is_made queries catalogue)
     (count_kind is_refused queries catalogue)
 
 -- the reply by number: the three counts as values
-abbrev pub answer_by : Outcome → (found made refused : ℕ) → Answer
-answer_by (Ok _) found made refused = granted (found ∷ made ∷ refused ∷ [])
-answer_by (Err r) found made refused = refusal r
-
-abbrev pub batch_answer : Batch → Answer
-batch_answer b = answer_by b.outcome b.found b.made b.refused
+abbrev pub batch_answer : Result Batch Refusal → Answer
+batch_answer (Ok b) = granted (b.found ∷ b.made ∷ b.refused ∷ [])
+batch_answer (Err r) = refusal r
 
 unfoldable pub look_up_batch_answer : (queries catalogue out replies : List ℕ) → Answer
 look_up_batch_answer queries catalogue out replies =
@@ -109,13 +113,9 @@ end_to_end zero f = []
 end_to_end (suc n) f = f zero ++ end_to_end n (λ i. f (suc i))
 
 -- the records at exit, and the replies: each is what its query gets alone; where the whole call is refused, as lent
-abbrev pub batched_in : Outcome → (now lent : List ℕ) → List ℕ
-batched_in (Ok _) now lent = now
-batched_in (Err r) now lent = lent
+abbrev pub parts_in : ℕ → Result Batch Refusal → (queries catalogue out : List ℕ) → List ℕ
+parts_in who b queries catalogue out = filled b (end_to_end (queries_in queries) (λ i. part_of who (query_at queries i) catalogue)) out
 
-abbrev pub parts_in : ℕ → Batch → (queries catalogue out : List ℕ) → List ℕ
-parts_in who b queries catalogue out = batched_in b.outcome (end_to_end (queries_in queries) (λ i. part_of who (query_at queries i) catalogue)) out
-
-abbrev pub replies_in : Batch → (queries catalogue replies : List ℕ) → List ℕ
+abbrev pub replies_in : Result Batch Refusal → (queries catalogue replies : List ℕ) → List ℕ
 replies_in b queries catalogue replies =
-    batched_in b.outcome (tabulate (queries_in queries) (λ i. reply_code (alone_of (query_at queries i) catalogue))) replies
+    filled b (tabulate (queries_in queries) (λ i. reply_code (alone_of (query_at queries i) catalogue))) replies

@@ -14,41 +14,34 @@ ghost use Rattle.batch.specs.Walk.{Holding};
 ghost use Rattle.batch.specs.Inner.{Answered, check_code, offered_part, offered_code, Offered, slots, slot_of, Marked, tested_part, tested_code, settled_part, settled_code, Settled, kind_of, one_of_kind, of_kind};
 
 use catalogue::RECORD_BYTES;
-use sequence::{Outcome, QUERY_BYTES, Refusal, Sequence};
+use sequence::{QUERY_BYTES, Refusal, Sequence};
 
 const MAX_QUERIES: usize = 16;
 
 const SLOTS: usize = 4099;
 
-// How many queries were found, made and refused, 0 each where the whole call is refused.
+// How many queries were found, made and refused.
 #[derive(Clone, Copy)]
 pub struct Batch {
     pub found: usize,
     pub made: usize,
     pub refused: usize,
-    pub outcome: Outcome,
 }
 
 // Zeros fill out.
 fn clear(out: &mut [u8])
     ensures { out.new ≡ replicate (length out.old) 0 }
 {
-    let mut k: usize = 0;
-    while k < out.len() {
-        out[k] = 0;
-        k += 1;
-    }
+    out.fill(0);
 }
 
 // The reply to a query before the walk.
 fn first_reply(query: &[u8]) -> u64
     ensures { result ≡ check_code query.now }
 {
-    let c = sequence::check(query);
-    let o = c.outcome;
-    match o {
-        Outcome::Done => 0,
-        Outcome::Refused(r) => codes::refused(r),
+    match sequence::check(query) {
+        Ok(_) => 0,
+        Err(r) => codes::refused(r),
     }
 }
 
@@ -57,11 +50,9 @@ fn check_all(queries: &[u8], replies: &mut [u64])
     requires { length replies.old ≡ queries_in queries.now }
     ensures { replies.new ≡ tabulate (queries_in queries.now) (λ i. check_code (query_at queries.now i)) }
 {
-    let mut i: usize = 0;
-    while i < replies.len() {
+    for i in 0..replies.len() {
         let at = i * QUERY_BYTES;
         replies[i] = first_reply(&queries[at..at + QUERY_BYTES]);
-        i += 1;
     }
 }
 
@@ -88,8 +79,7 @@ fn offer_all(queries: &[u8], entry: &[u8], j: usize, who: u64, out: &mut [u8], r
         × (length out.old ≡ queries_in queries.now * record_bytes) × (length replies.old ≡ queries_in queries.now) }
     ensures { Offered who queries.now entry.now j out.old replies.old out.new replies.new }
 {
-    let mut i: usize = 0;
-    while i < replies.len() {
+    for i in 0..replies.len() {
         let at = i * QUERY_BYTES;
         let to = i * RECORD_BYTES;
         let r = offer(
@@ -101,7 +91,6 @@ fn offer_all(queries: &[u8], entry: &[u8], j: usize, who: u64, out: &mut [u8], r
             replies[i],
         );
         replies[i] = r;
-        i += 1;
     }
 }
 
@@ -119,11 +108,9 @@ fn mark_all(queries: &[u8], marks: &mut [u8; SLOTS])
     ensures { Marked queries.now marks.new (queries_in queries.now) }
 {
     let n = queries.len() / QUERY_BYTES;
-    let mut i: usize = 0;
-    while i < n {
+    for i in 0..n {
         let at = i * QUERY_BYTES;
         marks[slot(&queries[at..at + QUERY_BYTES])] = 1;
-        i += 1;
     }
 }
 
@@ -158,8 +145,7 @@ fn walk(queries: &[u8], catalogue: &[u8], n: usize, who: u64, out: &mut [u8], re
 {
     let mut marks = [0u8; SLOTS];
     mark_all(queries, &mut marks);
-    let mut j: usize = 0;
-    while j < n {
+    for j in 0..n {
         let at = j * RECORD_BYTES;
         pass(
             queries,
@@ -170,15 +156,14 @@ fn walk(queries: &[u8], catalogue: &[u8], n: usize, who: u64, out: &mut [u8], re
             out,
             replies,
         );
-        j += 1;
     }
 }
 
 // The end of a query that passed its checks; s is its sequence.
-fn conclude(query: &[u8], s: Sequence, part: &mut [u8], reply: u64) -> u64
-    requires { (length query.now ≡ query_bytes) × (s ≡ sequence_of query.now) × IsSound s × (length part.old ≡ record_bytes) }
-    ensures value { result ≡ tested_code s part.old reply }
-    ensures part_after { part.new ≡ tested_part query.now s part.old reply }
+fn conclude(query: &[u8], s: &Sequence, part: &mut [u8], reply: u64) -> u64
+    requires { (length query.now ≡ query_bytes) × (s.now ≡ sequence_of query.now) × IsSound s.now × (length part.old ≡ record_bytes) }
+    ensures value { result ≡ tested_code s.now part.old reply }
+    ensures part_after { part.new ≡ tested_part query.now s.now part.old reply }
 {
     if reply == 0 {
         catalogue::write_record(query, s, part);
@@ -197,14 +182,9 @@ fn settle(query: &[u8], part: &mut [u8], reply: u64) -> u64
     ensures value { result ≡ settled_code (check_of query.now) query.now part.old reply }
     ensures part_after { part.new ≡ settled_part (check_of query.now) query.now part.old reply }
 {
-    let c = sequence::check(query);
-    let o = c.outcome;
-    match o {
-        Outcome::Refused(_) => reply,
-        Outcome::Done => {
-            let s = c.sequence;
-            conclude(query, s, part, reply)
-        }
+    match sequence::check(query) {
+        Ok(s) => conclude(query, &s, part, reply),
+        Err(_) => reply,
     }
 }
 
@@ -213,8 +193,7 @@ fn settle_all(queries: &[u8], out: &mut [u8], replies: &mut [u64])
     requires { (length out.old ≡ queries_in queries.now * record_bytes) × (length replies.old ≡ queries_in queries.now) }
     ensures { Settled queries.now out.old replies.old out.new replies.new }
 {
-    let mut i: usize = 0;
-    while i < replies.len() {
+    for i in 0..replies.len() {
         let at = i * QUERY_BYTES;
         let to = i * RECORD_BYTES;
         let r = settle(
@@ -223,7 +202,6 @@ fn settle_all(queries: &[u8], out: &mut [u8], replies: &mut [u64])
             replies[i],
         );
         replies[i] = r;
-        i += 1;
     }
 }
 
@@ -290,10 +268,8 @@ fn count(replies: &[u64], k: u32) -> usize
     ensures { result ≡ of_kind k replies.now }
 {
     let mut sum: usize = 0;
-    let mut i: usize = 0;
-    while i < replies.len() {
+    for i in 0..replies.len() {
         sum += one_of_kind(replies[i], k);
-        i += 1;
     }
     sum
 }
@@ -318,23 +294,28 @@ fn lengths_fit(queries: usize, out: usize, replies: usize) -> bool
 }
 
 // The refusal of the whole call by what is wrong, in the order 5, 34, 23: the lengths, too many queries, the catalogue's length.
-fn refused_by(misfit: bool, many: bool, uneven: bool) -> Outcome
+fn refused_by(misfit: bool, many: bool, uneven: bool) -> Result<(), Refusal>
     ensures { result ≡ refused_by misfit many uneven }
 {
     if misfit {
-        return Outcome::Refused(Refusal::Buffer);
+        return Err(Refusal::Buffer);
     }
     if many {
-        return Outcome::Refused(Refusal::Batch);
+        return Err(Refusal::Batch);
     }
     if uneven {
-        return Outcome::Refused(Refusal::Catalogue);
+        return Err(Refusal::Catalogue);
     }
-    Outcome::Done
+    Ok(())
 }
 
 // The refusal of the whole call, by the lengths in bytes, and in numbers for the replies.
-fn refused_whole(queries: usize, catalogue: usize, out: usize, replies: usize) -> Outcome
+fn refused_whole(
+    queries: usize,
+    catalogue: usize,
+    out: usize,
+    replies: usize,
+) -> Result<(), Refusal>
     ensures { result ≡ refused_whole queries catalogue out replies }
 {
     let misfit = !lengths_fit(queries, out, replies);
@@ -351,31 +332,17 @@ pub fn look_up_batch(
     who: u64,
     out: &mut [u8],
     replies: &mut [u64],
-) -> Batch
+) -> Result<Batch, Refusal>
     ensures value { result ≡ look_up_batch_of queries.now catalogue.now out.old replies.old }
     ensures out_after { out.new ≡ parts_in who result queries.now catalogue.now out.old }
     ensures replies_after { replies.new ≡ replies_in result queries.now catalogue.now replies.old }
     ensures result_value { batch_answer result ≡ look_up_batch_answer queries.now catalogue.now out.old replies.old }
 {
-    let o = refused_whole(queries.len(), catalogue.len(), out.len(), replies.len());
-    match o {
-        Outcome::Refused(r) => Batch {
-            found: 0,
-            made: 0,
-            refused: 0,
-            outcome: Outcome::Refused(r),
-        },
-        Outcome::Done => {
-            answer_all(queries, catalogue, who, out, replies);
-            let found = count(replies, 1);
-            let made = count(replies, 0);
-            let refused = count(replies, 2);
-            Batch {
-                found: found,
-                made: made,
-                refused: refused,
-                outcome: Outcome::Done,
-            }
-        }
-    }
+    refused_whole(queries.len(), catalogue.len(), out.len(), replies.len())?;
+    answer_all(queries, catalogue, who, out, replies);
+    Ok(Batch {
+        found: count(replies, 1),
+        made: count(replies, 0),
+        refused: count(replies, 2),
+    })
 }

@@ -2,10 +2,10 @@
 #![tactic(auto)]
 
 ghost use Rattle.std.specs.Prelude.{◌≡◌, [], ◌∷◌, ◌≤◌, ◌<◌, min};
-ghost use Rattle.sequence.specs.Answers.{granted, refusal};
+ghost use Rattle.sequence.specs.Answers.{granted, refusal, outcome_answer};
 ghost use Rattle.codes.specs.Codes.{last_place, code_of, counts_code_of};
 
-use sequence::{Place, Refusal};
+use sequence::Refusal;
 
 // 2^56 - 1: the last place that fits beside the number of a refusal.
 const LAST_PLACE: u64 = 72057594037927935;
@@ -25,11 +25,20 @@ fn told(i: usize) -> u64
 pub fn refused(r: Refusal) -> u64
     ensures { result ≡ code_of (refusal r) }
 {
-    let n = sequence::number(r);
-    let p = sequence::place_of(r);
-    match p {
-        Place::At(i) => n + 256 * told(i),
-        Place::Nowhere => n,
+    let n = r.number();
+    match r.place() {
+        Some(i) => n + 256 * told(i),
+        None => n,
+    }
+}
+
+// An answer that has no value.
+pub fn done(answer: Result<(), Refusal>) -> u64
+    ensures { result ≡ code_of (outcome_answer answer) }
+{
+    match answer {
+        Ok(()) => 0,
+        Err(r) => refused(r),
     }
 }
 

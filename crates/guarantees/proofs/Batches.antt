@@ -18,7 +18,7 @@ use Rattle.sequence.specs.Rules.{check_of}
 use Rattle.catalogue.specs.Rules.{record_bytes, body, record_at, look_up_of, LookedUp}
 use Rattle.codes.specs.Codes.{counts_code_of}
 use Rattle.batch.specs.declared.Batch.{Batch}
-use Rattle.batch.specs.Rules.{max_queries, query_at, queries_in, alone_of, part_of, reply_code, is_found, is_made, is_refused, lengths_fit, refused_by, refused_whole, look_up_batch_of, end_to_end, batched_in}
+use Rattle.batch.specs.Rules.{max_queries, query_at, queries_in, alone_of, part_of, reply_code, is_found, is_made, is_refused, lengths_fit, refused_by, refused_whole, look_up_batch_of, end_to_end, batched_in, outcome_of}
 use Rattle.batch.specs.Walk.{held_of, held_part, Holding}
 use Rattle.batch.proofs.Whole.{fits_out, fits_replies, fits_whole, reply_by_lem, answer_told, counts_small}
 use Rattle.batch.proofs.Holding.{match_is, is_match, none_is, is_none, held_refused, held_accepted}
@@ -85,7 +85,7 @@ module _ (queries catalogue out replies : List ℕ) where
 
 -- ---- each query
 
-module _ (queries catalogue out replies : List ℕ) (done : (look_up_batch_of queries catalogue out replies).outcome ≡ Ok tt) where
+module _ (queries catalogue out replies : List ℕ) (done : outcome_of (look_up_batch_of queries catalogue out replies) ≡ Ok tt) where
   every_query : (who : ℕ) → EveryQuery who queries catalogue out replies
   every_query who =
       record {
@@ -171,7 +171,7 @@ batch_alike queries c c' out replies s =
 
 module _
     (queries catalogue out replies : List ℕ)
-    (done : (look_up_batch_of queries catalogue out replies).outcome ≡ Ok tt)
+    (done : outcome_of (look_up_batch_of queries catalogue out replies) ≡ Ok tt)
     (made : MadeCatalogue catalogue)
     (who i : ℕ)
     (h : i < queries_in queries)

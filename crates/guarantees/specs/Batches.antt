@@ -13,7 +13,7 @@ use Rattle.sequence.specs.Rules.{check_of}
 use Rattle.sequence.specs.Report.{filled}
 use Rattle.catalogue.specs.Rules.{record_bytes, body, record_of, synthesize_of, record_at, is_of, look_up_of, look_up_answer, editor, seen_by}
 use Rattle.codes.specs.Codes.{code_of, counts_code_of}
-use Rattle.batch.specs.Rules.{max_queries, query_at, queries_in, is_found, is_made, is_refused, look_up_batch_of, batch_answer, look_up_batch_answer, parts_in, replies_in}
+use Rattle.batch.specs.Rules.{max_queries, query_at, queries_in, is_found, is_made, is_refused, look_up_batch_of, batch_answer, look_up_batch_answer, parts_in, replies_in, outcome_of}
 use Rattle.batch.specs.Walk.{Holding}
 use Rattle.guarantees.specs.Calls.{Call, taken}
 use Rattle.guarantees.specs.Claims.{terms_of, MadeCatalogue, AgreesWith}
@@ -49,17 +49,17 @@ pub data BatchReason (queries catalogue out replies : List ℕ) (o : Outcome) : 
 
 pub record EveryOutcome (queries catalogue out replies : List ℕ) : Type 0 where
   -- what is replied has its reason, and what has a reason is replied
-  pub reason : BatchReason queries catalogue out replies (look_up_batch_of queries catalogue out replies).outcome
-  pub exactly : (o : Outcome) → BatchReason queries catalogue out replies o → (look_up_batch_of queries catalogue out replies).outcome ≡ o
+  pub reason : BatchReason queries catalogue out replies outcome_of (look_up_batch_of queries catalogue out replies)
+  pub exactly : (o : Outcome) → BatchReason queries catalogue out replies o → outcome_of (look_up_batch_of queries catalogue out replies) ≡ o
   -- by number it is the answer that the calls promise, for C too
   pub by_number : batch_answer (look_up_batch_of queries catalogue out replies) ≡ look_up_batch_answer queries catalogue out replies
   -- where the whole call is refused, the records and the replies are as lent
-  pub records_kept : (who : ℕ) (r : Refusal) → (look_up_batch_of queries catalogue out replies).outcome ≡ Err r → records_after who queries catalogue out replies ≡ out
-  pub replies_kept : (r : Refusal) → (look_up_batch_of queries catalogue out replies).outcome ≡ Err r → replies_after queries catalogue out replies ≡ replies
+  pub records_kept : (who : ℕ) (r : Refusal) → outcome_of (look_up_batch_of queries catalogue out replies) ≡ Err r → records_after who queries catalogue out replies ≡ out
+  pub replies_kept : (r : Refusal) → outcome_of (look_up_batch_of queries catalogue out replies) ≡ Err r → replies_after queries catalogue out replies ≡ replies
   -- and nothing is counted
   pub none_counted :
-      (r : Refusal) → (look_up_batch_of queries catalogue out replies).outcome ≡ Err r
-      → look_up_batch_of queries catalogue out replies ≡ record { found = 0; made = 0; refused = 0; outcome = Err r }
+      (r : Refusal) → outcome_of (look_up_batch_of queries catalogue out replies) ≡ Err r
+      → look_up_batch_of queries catalogue out replies ≡ Err r
 
 -- ---- each query
 
@@ -150,13 +150,13 @@ pub record BatchSame (who : ℕ) (queries catalogue out replies : List ℕ) (i :
 -- For every batch, catalogue and buffers, and whoever asks; of each query and of the counts where the whole call is not refused.
 pub record Batches (queries catalogue out replies : List ℕ) : Type 0 where
   pub outcomes : EveryOutcome queries catalogue out replies
-  pub queries_alone : (who : ℕ) → (look_up_batch_of queries catalogue out replies).outcome ≡ Ok tt → EveryQuery who queries catalogue out replies
+  pub queries_alone : (who : ℕ) → outcome_of (look_up_batch_of queries catalogue out replies) ≡ Ok tt → EveryQuery who queries catalogue out replies
   pub walked : (who j : ℕ) (held told : List ℕ) → Holding who queries catalogue j held told → Walked who queries catalogue j held told
   pub counted :
-      (look_up_batch_of queries catalogue out replies).outcome ≡ Ok tt → (lent : List ℕ) → length lent ≡ record_bytes → Counted queries catalogue out replies lent
+      outcome_of (look_up_batch_of queries catalogue out replies) ≡ Ok tt → (lent : List ℕ) → length lent ≡ record_bytes → Counted queries catalogue out replies lent
   pub alike : (c' : List ℕ) → SameButNumbers catalogue c' → BatchAlike queries catalogue c' out replies
   pub same :
-      (who : ℕ) → (look_up_batch_of queries catalogue out replies).outcome ≡ Ok tt → MadeCatalogue catalogue
+      (who : ℕ) → outcome_of (look_up_batch_of queries catalogue out replies) ≡ Ok tt → MadeCatalogue catalogue
       → (i : ℕ) → i < queries_in queries → check_of (query_at queries i) ≡ Ok tt → (lent : List ℕ) → length lent ≡ record_bytes
       → BatchSame who queries catalogue out replies i lent
 

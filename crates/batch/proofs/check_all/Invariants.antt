@@ -9,7 +9,3 @@ use Rattle.batch.proofs.check_all.Given as goal
 abbrev pub invariant-loop-i : goal.invariant-loop-i
 invariant-loop-i l =
     Filled 0 (λ n. check_code (query_at l.queries n)) (queries_in l.queries) l.i l.replies
-
-abbrev pub decreases-loop-i : goal.decreases-loop-i
-decreases-loop-i l =
-    queries_in l.queries - l.i

@@ -11,7 +11,3 @@ use Rattle.batch.proofs.count.Given as goal
 abbrev pub invariant-loop-i : goal.invariant-loop-i
 invariant-loop-i l =
     (l.sum ≡ sum_to l.i (λ n. one_of_kind l.k (at l.replies n))) × (l.sum ≤ l.i) × (l.i ≤ length l.replies)
-
-abbrev pub decreases-loop-i : goal.decreases-loop-i
-decreases-loop-i l =
-    length l.replies - l.i

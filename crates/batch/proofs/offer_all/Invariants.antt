@@ -8,7 +8,3 @@ use Rattle.batch.proofs.offer_all.Given as goal
 abbrev pub invariant-loop-i : goal.invariant-loop-i
 invariant-loop-i l =
     Offering l.who l.queries l.entry l.j l.initial.out l.initial.replies l.i l.out l.replies
-
-abbrev pub decreases-loop-i : goal.decreases-loop-i
-decreases-loop-i l =
-    queries_in l.queries - l.i

@@ -27,4 +27,5 @@ pub shape_of-replies : goal.shape_of-replies
 shape_of-replies c = c.loop-i.invariant.many ∙ sym c.requires.1
 
 pub returns : goal.returns
-returns c = turn_all c.loop-i.invariant c.loop-i-test.false
+returns c =
+    turn_all c.loop-i.invariant (omega (arith, c.loop-i.invariant.many, c.requires.1, c.loop-i-test.false))

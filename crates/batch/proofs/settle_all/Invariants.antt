@@ -8,7 +8,3 @@ use Rattle.batch.proofs.settle_all.Given as goal
 abbrev pub invariant-loop-i : goal.invariant-loop-i
 invariant-loop-i l =
     Settling l.queries l.initial.out l.initial.replies l.i l.out l.replies
-
-abbrev pub decreases-loop-i : goal.decreases-loop-i
-decreases-loop-i l =
-    queries_in l.queries - l.i

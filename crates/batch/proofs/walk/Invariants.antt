@@ -7,7 +7,3 @@ use Rattle.batch.proofs.walk.Given as goal
 abbrev pub invariant-loop-j : goal.invariant-loop-j
 invariant-loop-j l =
     Holding l.who l.queries l.catalogue l.j l.out l.replies × (l.j ≤ l.n)
-
-abbrev pub decreases-loop-j : goal.decreases-loop-j
-decreases-loop-j l =
-    l.n - l.j

@@ -3,10 +3,10 @@
 use Rattle.codes.proofs.Laws.{placed_code, plain_code}
 use Rattle.codes.proofs.refused.Goals as goal
 
-pub returns-in-At : goal.returns-in-At
-returns-in-At c =
-    placed_code c.args.r c.number-n.ensures.0 c.place_of-p.ensures c.in-At.is c.told.ensures.0
+pub returns-in-Some : goal.returns-in-Some
+returns-in-Some c =
+    placed_code c.args.r c.number-n.ensures.0 c.place.ensures c.in-Some.is c.told.ensures.0
 
-pub returns-in-Nowhere : goal.returns-in-Nowhere
-returns-in-Nowhere c =
-    plain_code c.args.r c.number-n.ensures.0 c.place_of-p.ensures c.in-Nowhere.is
+pub returns-in-None : goal.returns-in-None
+returns-in-None c =
+    plain_code c.args.r c.number-n.ensures.0 c.place.ensures c.in-None.is
