@@ -3,7 +3,7 @@
 use mathlib.Core.Path.{◌≡◌, sym, ap, ap₂, ◌∙◌}
 use mathlib.Core.Bool.{Bool, true, false}
 use mathlib.Core.List.{List, ◌∷◌, map}
-use Prim.Native.Nat.{ℕ, ◌^◌, ◌<◌}
+use Prim.Native.Nat.{ℕ, zero, ◌^◌, ◌<◌}
 use native.Mathlib.Nat.{zero-mod}
 use lib.IntN.{ℤ, pos}
 use lib.ListN.{length, get_or, length-map, get_or-map}
@@ -11,14 +11,17 @@ use lib.Signed.{mag}
 use mir.Syntax.{w32}
 use mir.Val.{SFits, to_z, of_z}
 use mir.Facts.{to_z-of_z}
-use Rattle.std.specs.Prelude.{Ok, Err}
+use Rattle.std.specs.Prelude.{Result, Ok, Err}
 use Rattle.lists.specs.Table.{at}
 use Rattle.lists.proofs.Table.{length_tabulate, get_d_tabulate, tabulate_eq}
 use Rattle.lists.proofs.Search.{false_true}
 use Rattle.residue.specs.Signed.{residue_of}
 use Rattle.cells.specs.Cell.{bytes_of}
 use Rattle.sequence.specs.Limits.{max_terms}
+use Rattle.sequence.specs.declared.Refusal.{Refusal}
 use Rattle.sequence.specs.Rules.{query_of}
+use Rattle.sequence.proofs.Laws.{refused_as}
+use Rattle.lines.specs.Reply.{reply_of}
 use Rattle.sequence.proofs.Writing.{values}
 use Rattle.lines.specs.Reading.{Found, broken, past, read}
 use Rattle.lines.specs.Scan.{scanned_of, first_terms}
@@ -39,23 +42,24 @@ pub record Terms (f : Found) (m n : ℕ) : Type 0 where
   pub is : f ≡ read m terms
   pub count : n ≡ length terms
 
+-- the pair that a scan gives, if it does
+abbrev given : Result (ℕ × ℕ) Refusal → ℕ × ℕ
+given (Ok x) = x
+given (Err r) = (zero, zero)
+
 pub scanned_terms : (f : Found) (m n : ℕ) → scanned_of f ≡ Ok (m, n) → Terms f m n
 scanned_terms (broken i) m n e = let z : ◌≡◌ {A = Bool} false true = cc in false_true z
 scanned_terms (past i) m n e = let z : ◌≡◌ {A = Bool} false true = cc in false_true z
 scanned_terms (read k ts) m n e =
-    let same : k ≡ m = cc in
-    let count : length ts ≡ n = cc in
+    let same : k ≡ m = ap (λ (r : Result (ℕ × ℕ) Refusal). (given r).0) e in
+    let count : length ts ≡ n = ap (λ (r : Result (ℕ × ℕ) Refusal). (given r).1) e in
     record { terms = ts; is = ap (λ (x : ℕ). read x ts) same; count = sym count }
 
-pub scanned_broken : (f : Found) (i : ℕ) → scanned_of f ≡ Err (R.LineForm i) → f ≡ broken i
-scanned_broken (broken k) i e = let same : k ≡ i = cc in ap broken same
-scanned_broken (past k) i e = let z : ◌≡◌ {A = Bool} false true = cc in false_true z
-scanned_broken (read k ts) i e = let z : ◌≡◌ {A = Bool} false true = cc in false_true z
-
-pub scanned_past : (f : Found) (i : ℕ) → scanned_of f ≡ Err (R.LineRange i) → f ≡ past i
-scanned_past (broken k) i e = let z : ◌≡◌ {A = Bool} false true = cc in false_true z
-scanned_past (past k) i e = let same : k ≡ i = cc in ap past same
-scanned_past (read k ts) i e = let z : ◌≡◌ {A = Bool} false true = cc in false_true z
+-- a refusal that is scanned is the reply
+pub scanned_refused : (f : Found) {r : Refusal} → scanned_of f ≡ Err r → reply_of f ≡ Err r
+scanned_refused (broken k) e = refused_as e
+scanned_refused (past k) e = refused_as e
+scanned_refused (read k ts) e = let z : ◌≡◌ {A = Bool} false true = cc in false_true z
 
 pub length_first : (ts xs : List ℤ) → xs ≡ first_terms ts → length xs ≡ max_terms
 length_first ts xs e = ap length e ∙ length_tabulate max_terms (λ j. get_or ts j (pos 0))

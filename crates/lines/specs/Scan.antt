@@ -1,16 +1,17 @@
 -- What the functions inside keep of a reading: the number of terms, and the first 128 of them.
 -- Assumes nothing.
-use Rattle.std.specs.Prelude.{◌≡◌, List, ℕ, ◌+◌, ℤ, pos, length, set, get_or, Ok, Err}
+use Rattle.std.specs.Prelude.{◌≡◌, List, ℕ, ◌+◌, ℤ, pos, length, set, get_or, Result, Ok, Err}
 use Rattle.lists.specs.Choice.{pick}
 use Rattle.lists.specs.Table.{tabulate}
 use Rattle.sequence.specs.Limits.{max_terms}
+use Rattle.sequence.specs.declared.Refusal.{Refusal}
+use Rattle.sequence.specs.declared.Refusal.TheVariants as R
 use Rattle.lines.specs.declared.Cursor.{Cursor}
 use Rattle.lines.specs.Form.{signed}
 use Rattle.lines.specs.Reading.{in_term, Found, broken, past, read}
-use Rattle.lines.specs.Reply.{Scanned}
 
--- what is found, with the number of terms for the terms
-abbrev pub scanned_of : Found → Scanned
+-- what is found, with the number of terms for the terms: the refusal, or the modulus and that number
+abbrev pub scanned_of : Found → Result (ℕ × ℕ) Refusal
 scanned_of (broken i) = Err (R.LineForm i)
 scanned_of (past i) = Err (R.LineRange i)
 scanned_of (read m ts) = Ok (m, length ts)

@@ -15,7 +15,7 @@ ghost use Rattle.lines.specs.Reading.{class_of, goes, meets, state_after, may_en
 ghost use Rattle.lines.specs.Reply.{reply_to, read_of, read_answer, query_in};
 ghost use Rattle.lines.specs.Scan.{scanned_of, Kept, count_ended, array_ended};
 
-use sequence::{Outcome, QUERY_BYTES, Refusal};
+use sequence::{QUERY_BYTES, Refusal};
 use steps::TERMS;
 
 #[derive(Clone, Copy)]
@@ -55,14 +55,6 @@ struct Cursor {
     modulus: u32,
 }
 
-// What a line holds: the place where its form is broken, the place of a digit that passes its range, or the modulus and the count of terms.
-#[derive(Clone, Copy)]
-enum Scanned {
-    Broken(usize),
-    Past(usize),
-    Read(u32, usize),
-}
-
 // The highest number, and the highest after a minus.
 const HIGHEST: u64 = 2147483647;
 
@@ -84,10 +76,7 @@ fn class_of(b: u8) -> Class
 pub fn is_digit(b: u8) -> bool
     ensures { result ≡ is_digit b }
 {
-    match b {
-        b'0'..=b'9' => true,
-        _ => false,
-    }
+    b.is_ascii_digit()
 }
 
 // The state after a byte of that class, of those after a digit, a comma, a minus and a blank.
@@ -107,10 +96,7 @@ fn goes(digit: State, comma: State, minus: State, blank: State, k: Class) -> Sta
 fn meets(b: u8, x: u8, next: State, q: State) -> State
     ensures { result ≡ meets b x next q }
 {
-    if b == x {
-        return next;
-    }
-    q
+    if b == x { next } else { q }
 }
 
 // The state after a byte.
@@ -142,58 +128,19 @@ fn state_after(p: State, b: u8) -> State
 fn may_end(p: State) -> bool
     ensures { result ≡ may_end p }
 {
-    match p {
-        State::Start => false,
-        State::AfterM => false,
-        State::AfterO => false,
-        State::AfterD => false,
-        State::BeforeModulus => false,
-        State::InModulus => false,
-        State::BeforeTerms => true,
-        State::AfterMinus => false,
-        State::InTerm => true,
-        State::AfterTerm => true,
-        State::AfterComma => false,
-        State::Wrong => false,
-    }
+    matches!(p, State::BeforeTerms | State::InTerm | State::AfterTerm)
 }
 
 fn is_wrong(p: State) -> bool
     ensures { result ≡ is_wrong p }
 {
-    match p {
-        State::Start => false,
-        State::AfterM => false,
-        State::AfterO => false,
-        State::AfterD => false,
-        State::BeforeModulus => false,
-        State::InModulus => false,
-        State::BeforeTerms => false,
-        State::AfterMinus => false,
-        State::InTerm => false,
-        State::AfterTerm => false,
-        State::AfterComma => false,
-        State::Wrong => true,
-    }
+    matches!(p, State::Wrong)
 }
 
 fn in_term(p: State) -> bool
     ensures { result ≡ in_term p }
 {
-    match p {
-        State::Start => false,
-        State::AfterM => false,
-        State::AfterO => false,
-        State::AfterD => false,
-        State::BeforeModulus => false,
-        State::InModulus => false,
-        State::BeforeTerms => false,
-        State::AfterMinus => false,
-        State::InTerm => true,
-        State::AfterTerm => false,
-        State::AfterComma => false,
-        State::Wrong => false,
-    }
+    matches!(p, State::InTerm)
 }
 
 fn is_minus(b: u8) -> bool
@@ -202,18 +149,12 @@ fn is_minus(b: u8) -> bool
     b == b'-'
 }
 
-fn wide(x: u8) -> u64
-    ensures { (result ≡ x) × (result < 256) }
-{
-    x as u64
-}
-
 // A number with one more digit.
 fn grown(size: u64, b: u8) -> u64
     requires { (size ≤ limit true) × (is_digit b ≡ true) }
     ensures { result ≡ 10 * size + (b - 48) }
 {
-    10 * size + (wide(b) - 48)
+    10 * size + u64::from(b - b'0')
 }
 
 // At the colon the number is the modulus.
@@ -306,8 +247,9 @@ fn keep(c: Cursor, b: u8, n: usize, terms: &mut [i32; TERMS]) -> usize
     end_term(c, n, terms)
 }
 
-// Reads a line to its end, or to the first byte that breaks its form or passes a range; the first 128 terms go to an array of zeros.
-fn scan(line: &[u8], terms: &mut [i32; TERMS]) -> Scanned
+// Reads a line to its end, or to the first byte that breaks its form or passes a range: its modulus and how many terms it has. The first 128
+// terms go to an array of zeros.
+fn scan(line: &[u8], terms: &mut [i32; TERMS]) -> Result<(u32, usize), Refusal>
     requires { terms.old ≡ replicate max_terms (pos 0) }
     ensures value { result ≡ scanned_of (found_in line.now) }
     ensures kept { Kept (found_in line.now) terms.new }
@@ -319,27 +261,24 @@ fn scan(line: &[u8], terms: &mut [i32; TERMS]) -> Scanned
         modulus: 0,
     };
     let mut n: usize = 0;
-    let mut i: usize = 0;
-    while i < line.len() {
-        let b = line[i];
+    for (i, &b) in line.iter().enumerate() {
         let next = advance(c, b);
         let state = next.state;
         if is_wrong(state) {
-            return Scanned::Broken(i);
+            return Err(Refusal::LineForm(i));
         }
         if is_past(next) {
-            return Scanned::Past(i);
+            return Err(Refusal::LineRange(i));
         }
         n = keep(c, b, n, terms);
         c = next;
-        i += 1;
     }
     let state = c.state;
     if may_end(state) {
         let count = end_term(c, n, terms);
-        return Scanned::Read(c.modulus, count);
+        return Ok((c.modulus, count));
     }
-    Scanned::Broken(line.len())
+    Err(Refusal::LineForm(line.len()))
 }
 
 // The remainder of a term. 0, as in every place past the last term, takes no division.
@@ -369,36 +308,32 @@ fn write_query(m: u32, n: u32, terms: &[i32; TERMS], query: &mut [u8])
 }
 
 // The last checks of a line that reads well, and its query.
-fn fill(modulus: u32, n: usize, terms: &[i32; TERMS], query: &mut [u8]) -> Outcome
+fn fill(modulus: u32, n: usize, terms: &[i32; TERMS], query: &mut [u8]) -> Result<(), Refusal>
     requires { (length terms.now ≡ max_terms) × (length query.old ≡ query_bytes) }
     ensures value { result ≡ reply_to modulus n }
     ensures query_after { query.new ≡ filled result (bytes_of (modulus ∷ n ∷ tabulate max_terms (λ j. residue_of modulus (get_or terms.now j (pos 0))))) query.old }
 {
     if sequence::outside(modulus) {
-        return Outcome::Refused(Refusal::Modulus);
+        return Err(Refusal::Modulus);
     }
     if TERMS < n {
-        return Outcome::Refused(Refusal::Count);
+        return Err(Refusal::Count);
     }
     write_query(modulus, n as u32, terms, query);
-    Outcome::Done
+    Ok(())
 }
 
 // The query of a typed line; as lent where the line is refused. The line is read to its end before 1 and 2 are looked at.
 // Rejected: -1 as 1; a blank inside a number; 1 before a later 27; terms past the 128th dropped in silence.
-pub fn read_line(line: &[u8], query: &mut [u8]) -> Outcome
+pub fn read_line(line: &[u8], query: &mut [u8]) -> Result<(), Refusal>
     ensures value { result ≡ read_of line.now query.old }
     ensures query_after { query.new ≡ filled result (query_in (found_in line.now)) query.old }
     ensures result_value { outcome_answer result ≡ read_answer line.now query.old }
 {
     if query.len() != QUERY_BYTES {
-        return Outcome::Refused(Refusal::Buffer);
+        return Err(Refusal::Buffer);
     }
     let mut terms = [0i32; TERMS];
-    let s = scan(line, &mut terms);
-    match s {
-        Scanned::Broken(i) => Outcome::Refused(Refusal::LineForm(i)),
-        Scanned::Past(i) => Outcome::Refused(Refusal::LineRange(i)),
-        Scanned::Read(m, n) => fill(m, n, &terms, query),
-    }
+    let (modulus, n) = scan(line, &mut terms)?;
+    fill(modulus, n, &terms, query)
 }

@@ -6,7 +6,7 @@ use borrow.Author.Tests.{leb-true}
 use Rattle.lists.proofs.Search.{both_left}
 use Rattle.lines.proofs.grown.Goals as goal
 
-pub overflow_sub-result : goal.overflow_sub-result
-overflow_sub-result c =
+pub overflow_sub-b : goal.overflow_sub-b
+overflow_sub-b c =
     let b = c.args.b in
-    omega (arith, c.wide.ensures.0, leb-true 48 b (both_left (leb 48 b) (leb b 57) c.requires.1))
+    omega (arith, leb-true 48 b (both_left (leb 48 b) (leb b 57) c.requires.1))

@@ -1,7 +1,7 @@
 -- `lines::scan` meets its contract: the loop keeps what `Scanning` says.
 -- Assumes nothing.
 use mathlib.Core.Path.{refl, sym, ap, ◌∙◌}
-use Prim.Native.Nat.{◌≤◌, ◌<◌}
+use Prim.Native.Nat.{ℕ, ◌≤◌, ◌<◌}
 use native.Mathlib.Omega.{arith}
 use lib.ListN.{length}
 use Rattle.std.specs.Prelude.{Ok}
@@ -50,7 +50,7 @@ pub returns-then-may_end : goal.returns-then-may_end
 returns-then-may_end c =
     let h : length c.args.line.now ≤ c.loop-i.i = omega arith in
     let e = scanning_end c.loop-i.invariant h (sym c.may_end.ensures ∙ c.if-may_end.true) in
-    record { value = ap ((λ x y. Ok (x, y)) c.loop-i.c.modulus) (end_count c.loop-i.invariant h _ c.end_term-count.ensures.0) ∙ sym (ap scanned_of e); kept = keeps_read e (end_array c.loop-i.invariant h _ c.end_term-count.ensures.1) }
+    record { value = ap (λ (n : ℕ). Ok (c.loop-i.c.modulus, n)) (end_count c.loop-i.invariant h _ c.end_term-count.ensures.0) ∙ sym (ap scanned_of e); kept = keeps_read e (end_array c.loop-i.invariant h _ c.end_term-count.ensures.1) }
 
 pub returns : goal.returns
 returns c =

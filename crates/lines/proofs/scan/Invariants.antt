@@ -1,14 +1,8 @@
 -- `lines::scan` meets its contract: the loop keeps what `Scanning` says.
 -- Assumes nothing.
-use Prim.Native.Nat.{◌-◌}
-use lib.ListN.{length}
 use Rattle.lines.proofs.Scanning.{Scanning}
 use Rattle.lines.proofs.scan.Given as goal
 
 abbrev pub invariant-loop-i : goal.invariant-loop-i
 invariant-loop-i l =
     Scanning l.line l.c l.n l.i l.terms
-
-abbrev pub decreases-loop-i : goal.decreases-loop-i
-decreases-loop-i l =
-    length l.line - l.i
