@@ -234,20 +234,7 @@ refused_plain queries catalogue out replies {r} h =
 
 -- ---- the reply as one number
 
-module _ (queries catalogue out replies : List ℕ) where
-  pub done_code :
-      {b : Batch} {n : ℕ} → n ≡ counts_code_of (granted (b.found ∷ b.made ∷ b.refused ∷ [])) → batch_answer (Ok b) ≡ look_up_batch_answer queries catalogue out replies
-      → n ≡ counts_code_of (look_up_batch_answer queries catalogue out replies)
-  done_code e x = e ∙ ap counts_code_of x
-
-  pub refused_code :
-      {r : Refusal} {n : ℕ} → Err r ≡ look_up_batch_of queries catalogue out replies → n ≡ code_of (refusal r)
-      → batch_answer (Err r) ≡ look_up_batch_answer queries catalogue out replies → n ≡ counts_code_of (look_up_batch_answer queries catalogue out replies)
-  refused_code {r} same e x = e ∙ counts_refused r (refused_plain queries catalogue out replies same) ∙ ap counts_code_of x
-
-module _ (queries catalogue out replies : List ℕ) {b : Result Batch Refusal} (same : b ≡ look_up_batch_of queries catalogue out replies) where
-  pub records_told : (who : ℕ) {x : List ℕ} → x ≡ parts_in who b queries catalogue out → x ≡ parts_in who (look_up_batch_of queries catalogue out replies) queries catalogue out
-  records_told who e = e ∙ ap (λ (z : Result Batch Refusal). parts_in who z queries catalogue out) same
-
-  pub replies_told : {x : List ℕ} → x ≡ replies_in b queries catalogue replies → x ≡ replies_in (look_up_batch_of queries catalogue out replies) queries catalogue replies
-  replies_told e = e ∙ ap (λ (z : Result Batch Refusal). replies_in z queries catalogue replies) same
+pub refused_code :
+    (queries catalogue out replies : List ℕ) {r : Refusal} {n : ℕ} → Err r ≡ look_up_batch_of queries catalogue out replies → n ≡ code_of (refusal r)
+    → batch_answer (Err r) ≡ look_up_batch_answer queries catalogue out replies → n ≡ counts_code_of (look_up_batch_answer queries catalogue out replies)
+refused_code queries catalogue out replies {r} same e x = e ∙ counts_refused r (refused_plain queries catalogue out replies same) ∙ ap counts_code_of x

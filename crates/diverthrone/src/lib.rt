@@ -13,22 +13,13 @@ ghost use Rattle.enumeration.specs.Rules.{enumerate_of, enumerate_answer, query_
 ghost use Rattle.batch.specs.Rules.{look_up_batch_of, look_up_batch_answer, parts_in, replies_in};
 ghost use Rattle.codes.specs.Codes.{code_of, length_code_of, counts_code_of};
 
-use candidate::Verdict;
-use catalogue::LookedUp;
-use period::Measured;
-use sequence::Outcome;
-
 // Makes the record of a query.
 // Rejected: one that refuses every query; one that writes the query's bytes before it refuses.
 pub fn diverthrone_synthesize(query: &[u8], out: &mut [u8]) -> u64
     ensures value { result ≡ code_of (synthesize_answer query.now out.old) }
     ensures out_after { out.new ≡ filled (synthesize_of query.now out.old) (record_of query.now) out.old }
 {
-    let o = catalogue::synthesize(query, out);
-    match o {
-        Outcome::Done => 0,
-        Outcome::Refused(r) => codes::refused(r),
-    }
+    codes::done(catalogue::synthesize(query, out))
 }
 
 // Looks a query up in a catalogue for who asks: 1 is an editor, any other number a visitor.
@@ -37,11 +28,10 @@ pub fn diverthrone_look_up(query: &[u8], catalogue: &[u8], who: u64, out: &mut [
     ensures value { result ≡ code_of (look_up_answer query.now catalogue.now out.old) }
     ensures out_after { out.new ≡ served_in who (look_up_of query.now catalogue.now out.old) query.now catalogue.now out.old }
 {
-    let t = catalogue::look_up(query, catalogue, who, out);
-    match t {
-        LookedUp::Made => 0,
-        LookedUp::Found(i) => 256 * (1 + i as u64),
-        LookedUp::Refused(r) => codes::refused(r),
+    match catalogue::look_up(query, catalogue, who, out) {
+        Ok(None) => 0,
+        Ok(Some(i)) => 256 * (1 + i as u64),
+        Err(r) => codes::refused(r),
     }
 }
 
@@ -50,11 +40,10 @@ pub fn diverthrone_look_up(query: &[u8], catalogue: &[u8], who: u64, out: &mut [
 pub fn diverthrone_verify(query: &[u8], a: &[u8], b: &[u8], length: u32) -> u64
     ensures { result ≡ code_of (verify_answer query.now a.now b.now length) }
 {
-    let v = candidate::verify(query, a, b, length);
-    match v {
-        Verdict::Yes => 0,
-        Verdict::No(i) => 256 * (1 + i as u64),
-        Verdict::Refused(r) => codes::refused(r),
+    match candidate::verify(query, a, b, length) {
+        Ok(None) => 0,
+        Ok(Some(i)) => 256 * (1 + u64::from(i)),
+        Err(r) => codes::refused(r),
     }
 }
 
@@ -64,11 +53,7 @@ pub fn diverthrone_generate(modulus: u32, a: &[u8], b: &[u8], length: u32, out: 
     ensures value { result ≡ code_of (generate_answer modulus a.now b.now length out.old) }
     ensures out_after { out.new ≡ generated_in (generate_of modulus a.now b.now length out.old) modulus a.now b.now length out.old }
 {
-    let o = candidate::generate(modulus, a, b, length, out);
-    match o {
-        Outcome::Done => 0,
-        Outcome::Refused(r) => codes::refused(r),
-    }
+    codes::done(candidate::generate(modulus, a, b, length, out))
 }
 
 // Reads a typed line into a query.
@@ -77,11 +62,7 @@ pub fn diverthrone_read_line(line: &[u8], query: &mut [u8]) -> u64
     ensures value { result ≡ code_of (read_answer line.now query.old) }
     ensures query_after { query.new ≡ filled (read_of line.now query.old) (query_in (found_in line.now)) query.old }
 {
-    let o = lines::read_line(line, query);
-    match o {
-        Outcome::Done => 0,
-        Outcome::Refused(r) => codes::refused(r),
-    }
+    codes::done(lines::read_line(line, query))
 }
 
 // Merges two queries to one modulo the least common multiple of their moduli.
@@ -90,11 +71,7 @@ pub fn diverthrone_merge(first: &[u8], second: &[u8], query: &mut [u8]) -> u64
     ensures value { result ≡ code_of (merge_answer first.now second.now query.old) }
     ensures query_after { query.new ≡ merged_in (merge_of first.now second.now query.old) first.now second.now query.old }
 {
-    let o = merge::merge(first, second, query);
-    match o {
-        Outcome::Done => 0,
-        Outcome::Refused(r) => codes::refused(r),
-    }
+    codes::done(merge::merge(first, second, query))
 }
 
 // The length of the binary sequence whose period is lent.
@@ -102,10 +79,9 @@ pub fn diverthrone_merge(first: &[u8], second: &[u8], query: &mut [u8]) -> u64
 pub fn diverthrone_period_length(cells: &[u8]) -> u64
     ensures { result ≡ length_code_of (period_length_answer cells.now) }
 {
-    let m = period::period_length(cells);
-    match m {
-        Measured::Length(l) => 256 * (l as u64),
-        Measured::Refused(r) => codes::refused(r),
+    match period::period_length(cells) {
+        Ok(l) => 256 * u64::from(l),
+        Err(r) => codes::refused(r),
     }
 }
 
@@ -115,11 +91,7 @@ pub fn diverthrone_enumerate(modulus: u32, count: u32, number: u64, query: &mut 
     ensures value { result ≡ code_of (enumerate_answer modulus count number query.old) }
     ensures query_after { query.new ≡ filled (enumerate_of modulus count number query.old) (query_numbered modulus count number) query.old }
 {
-    let o = enumeration::enumerate(modulus, count, number, query);
-    match o {
-        Outcome::Done => 0,
-        Outcome::Refused(r) => codes::refused(r),
-    }
+    codes::done(enumeration::enumerate(modulus, count, number, query))
 }
 
 // How many sequences of count terms have each length.
@@ -128,11 +100,7 @@ pub fn diverthrone_tally(modulus: u32, count: u32, cells: &mut [u8]) -> u64
     ensures value { result ≡ code_of (tally_answer modulus count cells.old) }
     ensures cells_after { cells.new ≡ filled (tally_of modulus count cells.old) (tally_cells modulus count) cells.old }
 {
-    let o = enumeration::tally(modulus, count, cells);
-    match o {
-        Outcome::Done => 0,
-        Outcome::Refused(r) => codes::refused(r),
-    }
+    codes::done(enumeration::tally(modulus, count, cells))
 }
 
 // Looks up a batch of queries in one walk along a catalogue. Each query's reply is the one that diverthrone_look_up gives it alone.
@@ -148,10 +116,8 @@ pub fn diverthrone_look_up_batch(
     ensures records_after { records.new ≡ parts_in who (look_up_batch_of queries.now catalogue.now records.old replies.old) queries.now catalogue.now records.old }
     ensures replies_after { replies.new ≡ replies_in (look_up_batch_of queries.now catalogue.now records.old replies.old) queries.now catalogue.now replies.old }
 {
-    let b = batch::look_up_batch(queries, catalogue, who, records, replies);
-    let o = b.outcome;
-    match o {
-        Outcome::Done => codes::counts(b.found, b.made, b.refused),
-        Outcome::Refused(r) => codes::refused(r),
+    match batch::look_up_batch(queries, catalogue, who, records, replies) {
+        Ok(b) => codes::counts(b.found, b.made, b.refused),
+        Err(r) => codes::refused(r),
     }
 }
