@@ -29,7 +29,7 @@ pub fn diverthrone_look_up(query: &[u8], catalogue: &[u8], who: u64, out: &mut [
     ensures out_after { out.new ≡ served_in who (look_up_of query.now catalogue.now out.old) query.now catalogue.now out.old }
 {
     match catalogue::look_up(query, catalogue, who, out) {
-        Ok(None) => 0,
+        Ok(None) => 0, // made
         Ok(Some(i)) => 256 * (1 + i as u64),
         Err(r) => codes::refused(r),
     }
@@ -41,7 +41,7 @@ pub fn diverthrone_verify(query: &[u8], a: &[u8], b: &[u8], length: u32) -> u64
     ensures { result ≡ code_of (verify_answer query.now a.now b.now length) }
 {
     match candidate::verify(query, a, b, length) {
-        Ok(None) => 0,
+        Ok(None) => 0, // yes
         Ok(Some(i)) => 256 * (1 + u64::from(i)),
         Err(r) => codes::refused(r),
     }
