@@ -64,10 +64,8 @@ pub fn coefficient(a: &[u32; CELLS], s: &[u32; TERMS], l: usize, k: usize, q: u3
     ensures { result ≡ conv (at s.now) (at a.now) k % q }
 {
     let mut sum: u64 = 0;
-    let mut i: usize = 0;
-    while i <= l {
-        sum += (a[i] as u64) * (s[k - i] as u64);
-        i += 1;
+    for i in 0..l + 1 {
+        sum += u64::from(a[i]) * u64::from(s[k - i]);
     }
     residue::remainder(sum, q)
 }
@@ -78,11 +76,8 @@ fn combine(x: &mut [u32; CELLS], y: &[u32; CELLS], f: u32, s: usize, n: usize, r
         × Below max_cells ring.q y.now × Clear n max_cells y.now × (ring.scale ≡ scale_of ring.q) }
     ensures { Added max_cells ring.q f s x.old y.now x.new }
 {
-    let end = s + n;
-    let mut i: usize = s;
-    while i < end {
-        x[i] = residue::reduce(x[i] + f * y[i - s], ring.q, ring.scale);
-        i += 1;
+    for i in 0..n {
+        x[s + i] = residue::reduce(x[s + i] + f * y[i], ring.q, ring.scale);
     }
 }
 
@@ -101,14 +96,11 @@ fn look(
     ensures { Looks ring s.now k us.new ts.new × (length us.new ≡ max_rows)
         × (length ts.new ≡ max_rows) }
 {
-    let mut i: usize = 0;
-    while i < ring.e {
-        let l = len[i];
-        let d = coefficient(&cur[i], s, l, k, ring.q);
+    for i in 0..ring.e {
+        let d = coefficient(&cur[i], s, len[i], k, ring.q);
         let w = residue::weigh(d, ring.p, ring.e);
         us[i] = w.u;
         ts[i] = w.theta;
-        i += 1;
     }
 }
 
@@ -215,14 +207,12 @@ fn note(
         return;
     }
     let place = first + k * ring.e;
-    let mut i: usize = 0;
-    while i < ring.e {
+    for i in 0..ring.e {
         if log.len() <= place + i {
             return;
         }
         let x = describe(len, us, ts, k, i, ring);
         log[place + i] = pack(x);
-        i += 1;
     }
 }
 
@@ -256,17 +246,14 @@ fn plan(
         × Shape saved.old }
     ensures { Planned k e len.now us.now cur.now next.new saved.new e }
 {
-    let mut i: usize = 0;
-    while i < e {
+    for i in 0..e {
         let n = grown(len, us, i, k, e);
         next[i] = n;
         if n <= len[i] {
-            i += 1;
             continue;
         }
         let g = e - 1 - us[i];
         saved[i] = cur[g];
-        i += 1;
     }
 }
 
@@ -320,8 +307,7 @@ fn change_all(
     ensures { Changing ring k old.now len.now when.now mult.now us.now
         ts.now cur.old cur.new ring.e }
 {
-    let mut i: usize = 0;
-    while i < ring.e {
+    for i in 0..ring.e {
         change(
             &mut cur[i],
             old,
@@ -334,7 +320,6 @@ fn change_all(
             k,
             ring,
         );
-        i += 1;
     }
 }
 
@@ -388,11 +373,9 @@ fn settle(
         len.old when.old reach.old mult.old old.new len.new
         when.new reach.new mult.new ring.e }
 {
-    let mut i: usize = 0;
-    while i < ring.e {
+    for i in 0..ring.e {
         let n = next[i];
         if n <= len[i] {
-            i += 1;
             continue;
         }
         let g = ring.e - 1 - us[i];
@@ -403,7 +386,6 @@ fn settle(
         let v = residue::inverse(ts[g], ring.q);
         let w = residue::power(ring.p, ring.e - 1 - i - us[g]);
         mult[i] = residue::mul(v, w, ring.q);
-        i += 1;
     }
 }
 
@@ -447,11 +429,9 @@ fn start(cur: &mut [[u32; CELLS]; ROWS], p: u32, e: usize)
     ensures { Starting p cur.old cur.new e }
 {
     let mut r: u32 = 1;
-    let mut i: usize = 0;
-    while i < e {
+    for i in 0..e {
         cur[i][0] = r;
-        r = r * p;
-        i += 1;
+        r *= p;
     }
 }
 
@@ -483,15 +463,12 @@ pub fn run(
     let mut ts = [0u32; ROWS];
     start(&mut cur, ring.p, ring.e);
     *lens = [0u32; CELLS];
-    let mut k: usize = 0;
-    while k < n {
+    for k in 0..n {
         step(
             &mut cur, &mut old, &mut len, &mut when, &mut reach, &mut mult, &mut next, &mut saved,
             &mut us, &mut ts, s, k, ring, log, first,
         );
-        k += 1;
-        let l = len[0];
-        lens[k] = l as u32;
+        lens[k + 1] = len[0] as u32;
     }
     *a = cur[0];
 }
@@ -520,12 +497,10 @@ pub fn rows(
     *len = [0usize; ROWS];
     start(cur, ring.p, ring.e);
     let none = &mut empty[0..0];
-    let mut k: usize = 0;
-    while k < n {
+    for k in 0..n {
         step(
             cur, &mut old, len, &mut when, &mut reach, &mut mult, &mut next, &mut saved, &mut us,
             &mut ts, s, k, ring, none, 0,
         );
-        k += 1;
     }
 }

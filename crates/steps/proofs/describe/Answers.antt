@@ -8,12 +8,6 @@ use Rattle.steps.specs.Log.{told_of, described_of}
 use Rattle.steps.proofs.Log.{told_g}
 use Rattle.steps.proofs.describe.Goals as goal
 
-pub overflow_cast-result-3 : goal.overflow_cast-result-3
-overflow_cast-result-3 c = omega (arith, c.requires.3 c.args.i c.requires.0)
-
-pub overflow_cast-result-4 : goal.overflow_cast-result-4
-overflow_cast-result-4 c = omega (arith, c.requires.4 c.args.i c.requires.0)
-
 pub overflow_cast-result-5 : goal.overflow_cast-result-5
 overflow_cast-result-5 c =
     let a = c.args in

@@ -7,11 +7,6 @@ use Rattle.lists.specs.Table.{at}
 use Rattle.steps.proofs.Passes.{next_stay, next_flat, next_grow}
 use Rattle.steps.proofs.grown.Goals as goal
 
-pub overflow_add-l : goal.overflow_add-l
-overflow_add-l c =
-    let a = c.args in
-    omega (arith, c.requires.3 a.i (omega arith), c.requires.3 (a.e - 1 - at a.us.now a.i) (omega arith))
-
 pub returns-then-l-m : goal.returns-then-l-m
 returns-then-l-m c =
     let a = c.args in

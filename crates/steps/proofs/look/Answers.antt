@@ -7,11 +7,8 @@ use lib.ListN.{length-set}
 use Rattle.lists.proofs.Table.{each_next}
 use Rattle.residue.specs.Valuation.{valuation, cofactor}
 use Rattle.recurrence.specs.Steps.{u_at, θ-at}
-use Rattle.steps.proofs.Model.{q_up, p_up, len_low, row_low, row_clear, d_code}
+use Rattle.steps.proofs.Model.{q_up, len_low, row_low, row_clear, d_code}
 use Rattle.steps.proofs.look.Goals as goal
-
-pub loop-i-init : goal.loop-i-init
-loop-i-init c = (omega arith, c.requires.4, c.requires.5, λ η h. absurd (omega arith), λ η h. absurd (omega arith))
 
 pub coefficient-d-requires : goal.coefficient-d-requires
 coefficient-d-requires c =
@@ -26,26 +23,16 @@ coefficient-d-requires c =
       row_clear a.ring a.s.now st a.k a.cur.now a.len.now c.requires.1 c.requires.2 c.requires.3 i (omega arith),
     )
 
-pub weigh-w-requires : goal.weigh-w-requires
-weigh-w-requires c =
-    p_up c.args.ring c.args.s.now c.requires.0
-
 pub loop-i-preserved : goal.loop-i-preserved
 loop-i-preserved c =
     let a = c.args in
     let l = c.loop-i in
     let r = a.ring in
     let same = c.coefficient-d.ensures ∙ d_code r a.s.now c.requires.0 a.k a.cur.now c.requires.1 c.requires.2 l.i (omega arith) in (
-      omega arith,
-      length-set l.us l.i c.weigh-w.result.u ∙ l.invariant.1,
-      length-set l.ts l.i _ ∙ l.invariant.2,
-      each_next zero (λ (j : ℕ) (y : ℕ). y ≡ u_at r.p r.e a.s.now j a.k) l.us l.i c.weigh-w.result.u l.invariant.3 (omega (arith, l.invariant.1))
+      length-set l.us l.i c.weigh-w.result.u ∙ l.invariant.0,
+      length-set l.ts l.i _ ∙ l.invariant.1,
+      each_next zero (λ (j : ℕ) (y : ℕ). y ≡ u_at r.p r.e a.s.now j a.k) l.us l.i c.weigh-w.result.u l.invariant.2 (omega (arith, l.invariant.0))
           (c.weigh-w.ensures.0 ∙ ap (valuation r.e r.p) same),
-      each_next zero (λ (j : ℕ) (y : ℕ). y ≡ θ-at r.p r.e a.s.now j a.k) l.ts l.i _ l.invariant.4 (omega (arith, l.invariant.2))
+      each_next zero (λ (j : ℕ) (y : ℕ). y ≡ θ-at r.p r.e a.s.now j a.k) l.ts l.i _ l.invariant.3 (omega (arith, l.invariant.1))
           (c.weigh-w.ensures.1 ∙ ap (cofactor r.e r.p) same),
     )
-
-pub returns : goal.returns
-returns c =
-    let l = c.loop-i in
-    (record { powers = λ η h. l.invariant.3 η (omega arith); rests = λ η h. l.invariant.4 η (omega arith) }, l.invariant.1, l.invariant.2)

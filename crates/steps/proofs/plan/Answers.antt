@@ -1,25 +1,18 @@
 -- `steps::plan` meets its contract.
 -- Assumes nothing.
-use mathlib.Core.Path.{◌≡◌, refl, subst}
-use Prim.Native.Nat.{ℕ, ◌-◌}
+use mathlib.Core.Path.{refl}
+use Prim.Native.Nat.{◌-◌}
 use native.Mathlib.Omega.{arith}
 use Rattle.lists.specs.Table.{at}
-use Rattle.steps.specs.Passes.{Planned}
 use Rattle.steps.proofs.Passes.{next_rose, plan_skip, plan_next}
 use Rattle.steps.proofs.plan.Goals as goal
-
-pub loop-i-init : goal.loop-i-init
-loop-i-init c = (record { long = c.requires.4; shape = c.requires.5; lens = λ η h. absurd (omega arith); rows = λ η h. absurd (omega arith) }, omega arith)
-
-pub grown-n-requires : goal.grown-n-requires
-grown-n-requires c = (omega arith, c.requires.0, c.requires.1, c.requires.2)
 
 pub loop-i-preserved-then-n-len : goal.loop-i-preserved-then-n-len
 loop-i-preserved-then-n-len c =
     let a = c.args in
     let l = c.loop-i in
     let v = c.grown-n in
-    (plan_skip a.k a.e a.len.now a.us.now a.cur.now l.next l.saved l.i l.invariant.0 (omega arith) v.result v.ensures (omega arith), omega arith)
+    plan_skip a.k a.e a.len.now a.us.now a.cur.now l.next l.saved l.i l.invariant (omega arith) v.result v.ensures (omega arith)
 
 pub overflow_sub-g-in-loop-i : goal.overflow_sub-g-in-loop-i
 overflow_sub-g-in-loop-i c =
@@ -33,10 +26,4 @@ loop-i-preserved c =
     let a = c.args in
     let l = c.loop-i in
     let v = c.grown-n in
-    (plan_next a.k a.e a.len.now a.us.now a.cur.now l.next l.saved l.i l.invariant.0 (omega arith) v.result v.ensures _ (c.requires.3.wide _ (omega arith)) refl, omega arith)
-
-pub returns : goal.returns
-returns c =
-    let a = c.args in
-    let l = c.loop-i in
-    subst (λ (j : ℕ). Planned a.k a.e a.len.now a.us.now a.cur.now l.next l.saved j) (let e : l.i ≡ a.e = omega arith in e) l.invariant.0
+    plan_next a.k a.e a.len.now a.us.now a.cur.now l.next l.saved l.i l.invariant (omega arith) v.result v.ensures _ (c.requires.3.wide _ (omega arith)) refl

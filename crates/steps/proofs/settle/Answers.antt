@@ -1,69 +1,13 @@
 -- `steps::settle` meets its contract.
 -- Assumes nothing.
-use mathlib.Core.Path.{◌≡◌, refl, sym, ap₂, subst, ◌∙◌}
+use mathlib.Core.Path.{◌≡◌, sym, ap₂, subst, ◌∙◌}
 use Prim.Native.Nat.{ℕ, ◌≤◌, ◌<◌, ◌*◌, ◌-◌, ◌%◌, ◌^◌}
 use native.Mathlib.Nat.{le_refl, pow-le-pow_right}
 use native.Mathlib.Omega.{arith}
 use Rattle.lists.specs.Table.{at}
 use Rattle.residue.proofs.Units.{inverse_lt, coprime_invertible}
-use Rattle.steps.specs.Passes.{Settling}
-use Rattle.steps.proofs.Passes.{settle_skip, settle_next}
+use Rattle.steps.proofs.Passes.{settle_next}
 use Rattle.steps.proofs.settle.Goals as goal
-
-pub loop-i-init : goal.loop-i-init
-loop-i-init c = (
-  record {
-    shape = c.requires.7;
-    long_len = c.requires.9;
-    long_when = c.requires.10;
-    long_reach = c.requires.11;
-    long_mult = c.requires.12;
-    done = λ η h. absurd (omega arith);
-    todo_old = λ η h. refl;
-    todo_len = λ η h. refl;
-    todo_when = λ η h. refl;
-    todo_reach = λ η h. refl;
-    todo_mult = λ η h. refl;
-  },
-  omega arith,
-)
-
-pub loop-i-preserved-then-n-len : goal.loop-i-preserved-then-n-len
-loop-i-preserved-then-n-len c =
-    let a = c.args in
-    let l = c.loop-i in
-    let g = c.requires.6 l.i (omega arith) in
-    let same : at l.len l.i ≡ at a.len.now l.i = l.invariant.0.todo_len l.i (le_refl l.i) in
-    (settle_skip a.ring a.k a.saved.now a.next.now a.us.now a.ts.now a.old.now a.len.now a.when.now a.reach.now a.mult.now l.old l.len l.when l.reach l.mult l.i l.invariant.0 (omega arith) (omega (arith, g.up)), omega arith)
-
-pub overflow_sub-g-in-loop-i : goal.overflow_sub-g-in-loop-i
-overflow_sub-g-in-loop-i c =
-    let a = c.args in
-    let l = c.loop-i in
-    let g = c.requires.6 l.i (omega arith) in
-    let same : at l.len l.i ≡ at a.len.now l.i = l.invariant.0.todo_len l.i (le_refl l.i) in
-    omega (arith, g.some (omega arith))
-
-pub overflow_sub-reach : goal.overflow_sub-reach
-overflow_sub-reach c =
-    let l = c.loop-i in
-    (c.requires.6 l.i (omega arith)).most
-
-pub inverse-v-requires : goal.inverse-v-requires
-inverse-v-requires c =
-    let a = c.args in
-    let l = c.loop-i in
-    let g = c.requires.6 l.i (omega arith) in
-    let same : at l.len l.i ≡ at a.len.now l.i = l.invariant.0.todo_len l.i (le_refl l.i) in
-    (g.some_unit (omega arith), g.unit (omega arith), c.requires.2, g.coprime (omega arith))
-
-pub overflow_sub-ring-in-loop-i-2 : goal.overflow_sub-ring-in-loop-i-2
-overflow_sub-ring-in-loop-i-2 c =
-    let a = c.args in
-    let l = c.loop-i in
-    let g = c.requires.6 l.i (omega arith) in
-    let same : at l.len l.i ≡ at a.len.now l.i = l.invariant.0.todo_len l.i (le_refl l.i) in
-    omega (arith, g.fits (omega arith))
 
 pub power-w-requires : goal.power-w-requires
 power-w-requires c =
@@ -77,7 +21,7 @@ mul-requires c =
     let a = c.args in
     let l = c.loop-i in
     let g = c.requires.6 l.i (omega arith) in
-    let same : at l.len l.i ≡ at a.len.now l.i = l.invariant.0.todo_len l.i (le_refl l.i) in
+    let same : at l.len l.i ≡ at a.len.now l.i = l.invariant.todo_len l.i (le_refl l.i) in
     let x = a.ring.e - 1 - l.i - at a.us.now (a.ring.e - 1 - at a.us.now l.i) in
     let t = at a.ts.now (a.ring.e - 1 - at a.us.now l.i) in
     let up : a.ring.p ^ x ≤ a.ring.p ^ a.ring.e = pow-le-pow_right {n = a.ring.p} c.requires.4 {i = x} {j = a.ring.e} (omega arith) in
@@ -91,14 +35,6 @@ loop-i-preserved c =
     let l = c.loop-i in
     let test : l.i < a.ring.e = c.loop-i-test.true in
     let rose : at l.len l.i < at a.next.now l.i = c.if-n-len.false in
-    let same : at l.len l.i ≡ at a.len.now l.i = l.invariant.0.todo_len l.i (le_refl l.i) in (
-      settle_next a.ring a.k a.saved.now a.next.now a.us.now a.ts.now a.old.now a.len.now a.when.now a.reach.now a.mult.now l.old l.len l.when l.reach l.mult l.i c.mul.result l.invariant.0 (omega arith) c.requires.8 (omega arith)
-          (c.mul.ensures ∙ ap₂ (λ (x y : ℕ). x * y % a.ring.q) c.inverse-v.ensures c.power-w.ensures),
-      omega arith,
-    )
-
-pub returns : goal.returns
-returns c =
-    let a = c.args in
-    let l = c.loop-i in
-    subst (λ (j : ℕ). Settling a.ring a.k a.saved.now a.next.now a.us.now a.ts.now a.old.now a.len.now a.when.now a.reach.now a.mult.now l.old l.len l.when l.reach l.mult j) (let e : l.i ≡ a.ring.e = omega arith in e) l.invariant.0
+    let same : at l.len l.i ≡ at a.len.now l.i = l.invariant.todo_len l.i (le_refl l.i) in
+    settle_next a.ring a.k a.saved.now a.next.now a.us.now a.ts.now a.old.now a.len.now a.when.now a.reach.now a.mult.now l.old l.len l.when l.reach l.mult l.i c.mul.result l.invariant (omega arith) c.requires.8 (omega arith)
+    (c.mul.ensures ∙ ap₂ (λ (x y : ℕ). x * y % a.ring.q) c.inverse-v.ensures c.power-w.ensures)

@@ -1,14 +1,10 @@
 -- `steps::start` meets its contract.
 -- Assumes nothing.
 use mathlib.Core.Path.{◌≡◌}
-use Prim.Native.Nat.{◌≤◌, ◌-◌, ◌^◌}
+use Prim.Native.Nat.{◌^◌}
 use Rattle.steps.specs.Passes.{Starting}
 use Rattle.steps.proofs.start.Given as goal
 
 abbrev pub invariant-loop-i : goal.invariant-loop-i
 invariant-loop-i l =
-    Starting l.p l.initial.cur l.cur l.i × (l.i ≤ l.e) × (l.r ≡ l.p ^ l.i)
-
-abbrev pub decreases-loop-i : goal.decreases-loop-i
-decreases-loop-i l =
-    l.e - l.i
+    Starting l.p l.initial.cur l.cur l.i × (l.r ≡ l.p ^ l.i)

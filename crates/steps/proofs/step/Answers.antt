@@ -49,9 +49,6 @@ settle-requires c =
     let pl = c.advance.ensures.0 in
     (c.requires.1, st.few, st.small, q_up a.ring a.s.now st, p_up a.ring a.s.now st, whole_low a.ring a.s.now st, grows_code a.ring a.s.now st a.k a.len.now _ _ s.lens lk _ pl.lens, s.shape_old, pl.shape, s.long_len, s.long_when, s.long_reach, s.long_mult)
 
-pub shape_of-log : goal.shape_of-log
-shape_of-log c = c.note.ensures.long
-
 pub returns : goal.returns
 returns c =
     let a = c.args in
