@@ -4,11 +4,12 @@ use mathlib.Core.Path.{ap}
 use Prim.Native.Nat.{ℕ, suc, ◌≤◌, ◌*◌, ◌^◌}
 use native.Mathlib.Nat.{pow-suc, pow-le-pow_right}
 use native.Mathlib.Omega.{arith}
+use Rattle.steps.proofs.Model.{base_up, whole_low}
 use Rattle.steps.proofs.start.Goals as goal
 
-pub overflow_mul-r : goal.overflow_mul-r
-overflow_mul-r c =
+pub overflow_mul-power : goal.overflow_mul-power
+overflow_mul-power c =
     let i = c.loop-i.i in
-    let p = c.args.p in
-    let up : p ^ suc i ≤ p ^ c.args.e = pow-le-pow_right c.requires.0 (omega arith) in
-    omega (arith, pow-suc p i, ap (λ (y : ℕ). y * p) c.loop-i.invariant.1)
+    let ring = c.args.ring in
+    let up : ring.p ^ suc i ≤ ring.p ^ ring.e = pow-le-pow_right (base_up ring) (omega arith) in
+    omega (arith, whole_low ring, pow-suc ring.p i, ap (λ (y : ℕ). y * ring.p) c.loop-i.invariant.1)

@@ -7,4 +7,4 @@ use Rattle.steps.proofs.start.Given as goal
 
 abbrev pub invariant-loop-i : goal.invariant-loop-i
 invariant-loop-i l =
-    Starting l.p l.initial.cur l.cur l.i × (l.r ≡ l.p ^ l.i)
+    Starting l.ring.p l.initial.a l.a l.i × (l.power ≡ l.ring.p ^ l.i)
