@@ -86,6 +86,28 @@ struct Machine {
     plan: Plan,
 }
 
+// A machine of zeros. A constant, and not what a function gives: that would be copied, which is slower and takes twice the stack.
+const BLANK: Machine = Machine {
+    rows: Rows {
+        a: [[0u32; CELLS]; ROWS],
+        length: [0usize; ROWS],
+    },
+    memory: Memory {
+        a: [[0u32; CELLS]; ROWS],
+        when: [0usize; ROWS],
+        reach: [0usize; ROWS],
+        mult: [0u32; ROWS],
+    },
+    seen: Seen {
+        u: [0usize; ROWS],
+        theta: [0u32; ROWS],
+    },
+    plan: Plan {
+        length: [0usize; ROWS],
+        aside: [[0u32; CELLS]; ROWS],
+    },
+};
+
 // What a record tells of a row's partner: g, and the case by its number, as `StepRecord` has it.
 #[derive(Clone, Copy)]
 struct Told {
@@ -117,7 +139,7 @@ fn combine(x: &mut [u32; CELLS], y: &[u32; CELLS], f: u32, s: usize, n: usize, r
 }
 
 // The rows before any term: row i has a = p^i.
-fn start(a: &mut [[u32; CELLS]; ROWS], ring: Ring)
+fn first_rows(a: &mut [[u32; CELLS]; ROWS], ring: Ring)
     requires { Shape a.old × Blank a.old }
     ensures { Starting ring.p a.old a.new ring.e }
 {
@@ -149,7 +171,8 @@ impl Rows {
         requires { Below max_terms 65536 s.now × (n ≤ max_terms) }
         ensures { RowsAt ring s.now n result }
     {
-        let mut machine = Machine::new(ring);
+        let mut machine = BLANK;
+        machine.start(ring);
         let mut empty = [0u64; 1];
         let none = &mut empty[0..0];
         for k in 0..n {
@@ -315,31 +338,11 @@ pub fn entry(log: &[u64; LOG], i: usize) -> StepRecord
 
 impl Machine {
     // The machine before any term. No row has grown, so that none remembers anything.
-    fn new(ring: Ring) -> Machine
-        ensures { (terms : List ℕ) → State ring terms 0 result }
+    fn start(&mut self, ring: Ring)
+        requires { self.old ≡ BLANK }
+        ensures { (terms : List ℕ) → State ring terms 0 self.new }
     {
-        let mut machine = Machine {
-            rows: Rows {
-                a: [[0u32; CELLS]; ROWS],
-                length: [0usize; ROWS],
-            },
-            memory: Memory {
-                a: [[0u32; CELLS]; ROWS],
-                when: [0usize; ROWS],
-                reach: [0usize; ROWS],
-                mult: [0u32; ROWS],
-            },
-            seen: Seen {
-                u: [0usize; ROWS],
-                theta: [0u32; ROWS],
-            },
-            plan: Plan {
-                length: [0usize; ROWS],
-                aside: [[0u32; CELLS]; ROWS],
-            },
-        };
-        start(&mut machine.rows.a, ring);
-        machine
+        first_rows(&mut self.rows.a, ring);
     }
 
     // The record of row i at step k, by value.
@@ -423,7 +426,8 @@ pub fn run(
         × Noted first (n * ring.e) (λ (i : ℕ). packed (step_record (get_or (steps_at s.now (power_of ring) n) i no_step)))
         log.old log.new }
 {
-    let mut machine = Machine::new(ring);
+    let mut machine = BLANK;
+    machine.start(ring);
     *lens = [0u32; CELLS];
     for k in 0..n {
         machine.step(s, k, ring, log, first);

@@ -16,7 +16,7 @@ use Rattle.steps.proofs.run.Goals as goal
 pub loop-k-init : goal.loop-k-init
 loop-k-init c =
     let a = c.args in (
-      c.new-machine.ensures a.s.now,
+      c.start.ensures a.s.now,
       length-replicate max_cells zero,
       lens_first a.ring a.s.now (replicate max_cells zero) (line_blank max_cells zero),
       λ j h. line_blank max_cells j,

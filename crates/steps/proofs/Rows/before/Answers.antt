@@ -3,4 +3,4 @@
 use Rattle.steps.proofs.Rows.before.Goals as goal
 
 pub loop-k-init : goal.loop-k-init
-loop-k-init c = c.new-machine.ensures c.args.s.now
+loop-k-init c = c.start.ensures c.args.s.now

@@ -1,9 +1,9 @@
--- `steps::start` meets its contract.
+-- `steps::first_rows` meets its contract.
 -- Assumes nothing.
 use mathlib.Core.Path.{◌≡◌}
 use Prim.Native.Nat.{◌^◌}
 use Rattle.steps.specs.Passes.{Starting}
-use Rattle.steps.proofs.start.Given as goal
+use Rattle.steps.proofs.first_rows.Given as goal
 
 abbrev pub invariant-loop-i : goal.invariant-loop-i
 invariant-loop-i l =

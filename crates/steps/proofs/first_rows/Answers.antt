@@ -1,11 +1,11 @@
--- `steps::start` meets its contract.
+-- `steps::first_rows` meets its contract.
 -- Assumes nothing.
 use mathlib.Core.Path.{ap}
 use Prim.Native.Nat.{ℕ, suc, ◌≤◌, ◌*◌, ◌^◌}
 use native.Mathlib.Nat.{pow-suc, pow-le-pow_right}
 use native.Mathlib.Omega.{arith}
 use Rattle.steps.proofs.Model.{base_up, whole_low}
-use Rattle.steps.proofs.start.Goals as goal
+use Rattle.steps.proofs.first_rows.Goals as goal
 
 pub overflow_mul-power : goal.overflow_mul-power
 overflow_mul-power c =
