@@ -182,6 +182,7 @@ impl Rows {
     }
 
     // g and the case of a row with this u.
+    #[tactic(auto, using(crate::proofs::Log::told_stays, crate::proofs::Log::told_added, crate::proofs::Log::told_cancelled))]
     fn tell(&self, u: usize, e: usize) -> Told
         requires { e ≤ max_rows }
         ensures { result ≡ told_of e self.now.length u }
@@ -197,6 +198,7 @@ impl Rows {
     }
 
     // The length of row i after step k, by the law of lengths.
+    #[tactic(auto, using(crate::proofs::Passes::next_stay, crate::proofs::Passes::next_flat, crate::proofs::Passes::next_grow))]
     fn grown(&self, seen: &Seen, i: usize, k: usize, ring: Ring) -> usize
         requires { (i < ring.e) × (k < max_terms) × Ready ring k self.now seen.now }
         ensures { result ≡ next_at self.now.length seen.now.u k ring.e i }
@@ -232,6 +234,7 @@ impl Rows {
 
 impl Plan {
     // The lengths after step k. Of each row that grows, the row that it is to remember is put aside, as it is before the step.
+    #[tactic(auto, using(crate::proofs::Passes::next_rose, crate::proofs::Passes::plan_next))]
     fn make(&mut self, rows: &Rows, seen: &Seen, k: usize, ring: Ring)
         requires { (k < max_terms) × Ready ring k rows.now seen.now }
         ensures { Planned ring k rows.now seen.now self.new ring.e }
@@ -298,6 +301,7 @@ impl Memory {
 }
 
 // A record as one number of 61 bits, and back: a log is an array of numbers.
+#[tactic(auto, unfolding(crate::specs::Log::packed))]
 fn pack(x: StepRecord) -> u64
     requires { Narrow x }
     ensures { result ≡ packed x }
@@ -307,6 +311,7 @@ fn pack(x: StepRecord) -> u64
     ((middle * 65536 + (x.theta as u64)) * 16 + (x.g as u64)) * 4 + (x.case as u64)
 }
 
+#[tactic(auto, unfolding(crate::specs::Log::unpacked))]
 fn unpack(w: u64) -> StepRecord
     ensures { result ≡ unpacked w }
 {
@@ -366,6 +371,7 @@ impl Machine {
 
     // The records of all rows at step k, behind those of the steps before it, which begin at a place of the log; as far as the log has
     // places. One that has none asks for nothing, and is told first: then nothing else is computed.
+    #[tactic(auto, using(crate::proofs::Log::narrow_described))]
     fn note(&self, k: usize, ring: Ring, log: &mut [u64], first: usize)
         requires { (first + (k * ring.e + ring.e) ≤ log_words) × (k < max_terms) × Ready ring k self.now.rows self.now.seen }
         ensures { Noted (first + k * ring.e) ring.e (λ (i : ℕ). packed (described_of ring self.now.rows self.now.seen k i)) log.old log.new }

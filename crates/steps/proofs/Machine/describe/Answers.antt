@@ -1,20 +1,20 @@
 -- `steps::Machine::describe` meets its contract.
 -- Assumes nothing.
-use mathlib.Core.Path.{◌≡◌, ap}
+use mathlib.Core.Path.{sym, ap, subst}
+use Prim.Native.Nat.{◌≤◌}
 use native.Mathlib.Omega.{arith}
 use Rattle.lists.specs.Table.{at}
 use Rattle.steps.specs.declared.Told.{Told}
-use Rattle.steps.specs.Log.{told_of, described_of}
+use Rattle.steps.specs.Log.{described_of}
 use Rattle.steps.proofs.Log.{told_g}
 use Rattle.steps.proofs.Machine.describe.Goals as goal
 
+-- whatever u is told of
 pub overflow_cast-result-5 : goal.overflow_cast-result-5
 overflow_cast-result-5 c =
     let a = c.args in
-    let len = a.self.now.rows.length in
-    let u = at a.self.now.seen.u a.i in
-    let told : c.tell-x.result.g ≡ (told_of a.ring.e len u).g = ap (λ (x : Told). x.g) c.tell-x.ensures in
-    omega (arith, told, told_g a.ring.e len u, a.ring.fit.few)
+    let low : c.tell-x.result.g ≤ a.ring.e = subst (λ (x : Told). x.g ≤ a.ring.e) (sym c.tell-x.ensures) (told_g a.ring.e a.self.now.rows.length _) in
+    omega (arith, low, a.ring.fit.few)
 
 pub returns : goal.returns
 unfolding described_of
