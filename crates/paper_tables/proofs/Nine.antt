@@ -1,4 +1,4 @@
--- 6, 3, 1, 5, 6 modulo 9 meet the demand on a setting.
+-- 6, 3, 1, 5, 6 modulo 9 are fit for the steps.
 -- Assumes nothing.
 use mathlib.Core.Path.{◌≡◌, refl, sym, ap, ◌∙◌}
 use mathlib.Core.List.{List, ◌∷◌}
@@ -7,11 +7,9 @@ use native.Mathlib.Omega.{arith}
 use lib.ListN.{replicate}
 use Rattle.lists.specs.Table.{at}
 use Rattle.residue.specs.Units.{Prime}
-use Rattle.residue.specs.Reduction.{scale_of}
-use Rattle.steps.specs.Run.{Setting}
 use Rattle.steps.proofs.Passes.{line_blank}
 
-three : Prime 3
+pub three : Prime 3
 three =
     record {
       big = omega arith;
@@ -25,22 +23,10 @@ three =
 abbrev terms : List ℕ
 terms = 6 ∷ 3 ∷ 1 ∷ 5 ∷ 6 ∷ replicate 123 zero
 
-low : (i : ℕ) → at terms i < 65536
+pub low : (i : ℕ) → at terms i < 65536
 low zero = omega arith
 low (suc zero) = omega arith
 low (suc (suc zero)) = omega arith
 low (suc (suc (suc zero))) = omega arith
 low (suc (suc (suc (suc zero)))) = omega arith
 low (suc (suc (suc (suc (suc i))))) = omega (arith, line_blank 123 i)
-
-pub nine : (scale : ℕ) → scale ≡ scale_of 9 → Setting (record { p = 3; e = 2; q = 9; scale = scale }) terms
-nine scale h =
-    record {
-      prime = three;
-      pos = omega arith;
-      few = omega arith;
-      whole = refl;
-      small = omega arith;
-      scaled = h;
-      terms = λ i l. low i;
-    }

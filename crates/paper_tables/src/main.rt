@@ -7,13 +7,13 @@
 
 ghost use Rattle.std.specs.Prelude.{◌≤◌, ◌<◌, length};
 ghost use Rattle.steps.specs.Sizes.{max_terms, max_cells};
-ghost use Rattle.steps.specs.Run.{Below, Setting};
+ghost use Rattle.steps.specs.Run.{Below};
 
 use catalogue::RECORD_BYTES;
 use sequence::{A_BYTES, B_BYTES, Outcome, QUERY_BYTES, Sequence};
 use std::io;
 use std::io::Write;
-use steps::{CELLS, LOG, ROWS, Ring, StepRecord, TERMS};
+use steps::{CELLS, LOG, Ring, Rows, StepRecord, TERMS};
 
 // The number of terms.
 const COUNT: usize = 5;
@@ -78,20 +78,19 @@ fn pair<W: Write>(
 }
 
 fn pairs<W: Write>(out: &mut W, k: usize, s: &[u32; TERMS], ring: Ring) -> io::Result<()>
-    requires { Setting ring s.now × (k < max_terms) }
+    requires { Below max_terms 65536 s.now × (k < max_terms) }
 {
-    let mut cur = [[0u32; CELLS]; ROWS];
-    let mut len = [0usize; ROWS];
-    steps::rows(s, k, ring, &mut cur, &mut len);
+    let rows = Rows::before(s, k, ring);
     for i in 0..ring.e {
-        pair(out, k, i, s, &cur[i], len[i], ring.q)?;
+        let l = rows.length[i];
+        pair(out, k, i, s, &rows.a[i], l, ring.q)?;
     }
     Ok(())
 }
 
 // Table 1: the rows' pairs before each step, and after the last.
 fn table_1<W: Write>(out: &mut W, s: &[u32; TERMS], ring: Ring) -> io::Result<()>
-    requires { Setting ring s.now }
+    requires { Below max_terms 65536 s.now }
 {
     printing::text(out, b"Table 1\nk eta a b\n")?;
     for k in 0..=COUNT {
@@ -146,20 +145,18 @@ fn ended<W: Write>(out: &mut W, eta: usize, l: usize) -> io::Result<()> {
 
 // The lengths after the last term. There is no step that sees them, so that they stand in no record.
 fn lengths<W: Write>(out: &mut W, s: &[u32; TERMS], ring: Ring) -> io::Result<()>
-    requires { Setting ring s.now }
+    requires { Below max_terms 65536 s.now }
 {
-    let mut cur = [[0u32; CELLS]; ROWS];
-    let mut len = [0usize; ROWS];
-    steps::rows(s, COUNT, ring, &mut cur, &mut len);
+    let rows = Rows::before(s, COUNT, ring);
     for i in 0..ring.e {
-        ended(out, i, len[i])?;
+        ended(out, i, rows.length[i])?;
     }
     Ok(())
 }
 
 // Table 2: the quintuples at each step, and the lengths after the last.
 fn table_2<W: Write>(out: &mut W, s: &[u32; TERMS], ring: Ring) -> io::Result<()>
-    requires { Setting ring s.now }
+    requires { Below max_terms 65536 s.now }
 {
     printing::text(out, b"Table 2\nk eta l u theta f case\n")?;
     let terms = *s;
@@ -227,12 +224,7 @@ fn main(rt: HostRuntime) -> io::Result<()> {
     s[2] = 1;
     s[3] = 5;
     s[4] = 6;
-    let ring = Ring {
-        p: 3,
-        e: 2,
-        q: 9,
-        scale: residue::scale(9),
-    };
+    let ring = Ring::new(3, 2, 9);
     table_1(&mut out, &s, ring)?;
     table_2(&mut out, &s, ring)?;
     case_15(&mut out)

@@ -50,12 +50,11 @@ up_same s x y n i h l = go (dec_le s i)
     go (yes a) = up_from s x i a ∙ h (i - s) (omega arith) ∙ sym (up_from s y i a)
     go (no a) = up_below s x i (omega arith) ∙ sym (up_below s y i (omega arith))
 
--- the cells below i are done
+-- the cells below s + i are done
 pub record Adding (n q f s : ℕ) (x₀ y x : List ℕ) (i : ℕ) : Type 0 where
-  pub from : s ≤ i
   pub long : length x ≡ length x₀
-  pub done : (j : ℕ) → j < i → j < n → at x j ≡ (at x₀ j + f * at (up s y) j) % q
-  pub todo : (j : ℕ) → i ≤ j → at x j ≡ at x₀ j
+  pub done : (j : ℕ) → j < s + i → j < n → at x j ≡ (at x₀ j + f * at (up s y) j) % q
+  pub todo : (j : ℕ) → s + i ≤ j → at x j ≡ at x₀ j
 
 module _ (n q f s : ℕ) (x₀ y : List ℕ) (red : Below n q x₀) where
   nothing : (j : ℕ) → j < n → at (up s y) j ≡ zero → at x₀ j ≡ (at x₀ j + f * at (up s y) j) % q
@@ -63,32 +62,34 @@ module _ (n q f s : ℕ) (x₀ y : List ℕ) (red : Below n q x₀) where
       sym (ap (λ (w : ℕ). (at x₀ j + f * w) % q) z
       ∙ ap (λ (w : ℕ). w % q) (let e : at x₀ j + f * zero ≡ at x₀ j = omega arith in e) ∙ mod-eq_of_lt (red j m))
 
-  pub add_start : Adding n q f s x₀ y x₀ s
-  add_start = record { from = le_refl s; long = refl; done = λ j l m. nothing j m (up_below s y j l); todo = λ j l. refl }
+  pub add_start : Adding n q f s x₀ y x₀ zero
+  add_start = record { long = refl; done = λ j l m. nothing j m (up_below s y j (omega arith)); todo = λ j l. refl }
 
-  pub add_next : (x : List ℕ) (i v : ℕ) → Adding n q f s x₀ y x i → i < length x₀ → v ≡ (at x i + f * at y (i - s)) % q
-      → Adding n q f s x₀ y (set x i v) (i + 1)
+  pub add_next : (x : List ℕ) (i v : ℕ) → Adding n q f s x₀ y x i → s + i < length x₀ → v ≡ (at x (s + i) + f * at y i) % q
+      → Adding n q f s x₀ y (set x (s + i) v) (i + 1)
   add_next x i v c h value =
       record {
-        from = omega (arith, c.from);
-        long = length-set x i v ∙ c.long;
-        done = λ j l. go j (ℕ_discrete j i) l;
-        todo = λ j l. get_or-set_other x i j v zero (λ e. omega arith) ∙ c.todo j (omega arith);
+        long = length-set x (s + i) v ∙ c.long;
+        done = λ j l. go j (ℕ_discrete j (s + i)) l;
+        todo = λ j l. get_or-set_other x (s + i) j v zero (λ e. omega arith) ∙ c.todo j (omega arith);
       }
     where
-      go : (j : ℕ) → Dec (j ≡ i) → j < i + 1 → j < n → at (set x i v) j ≡ (at x₀ j + f * at (up s y) j) % q
+      moved : at (up s y) (s + i) ≡ at y i
+      moved = up_from s y (s + i) (omega arith) ∙ ap (at y) (let e : s + i - s ≡ i = omega arith in e)
+
+      go : (j : ℕ) → Dec (j ≡ s + i) → j < s + (i + 1) → j < n → at (set x (s + i) v) j ≡ (at x₀ j + f * at (up s y) j) % q
       go j (yes e) l m =
-          ap (λ (k : ℕ). at (set x i v) k) e ∙ get_or-set_same x i v zero (omega (arith, c.long)) ∙ value
-          ∙ ap₂ (λ (a b : ℕ). (a + f * b) % q) (c.todo i (le_refl i)) (sym (up_from s y i c.from))
+          ap (λ (k : ℕ). at (set x (s + i) v) k) e ∙ get_or-set_same x (s + i) v zero (omega (arith, c.long)) ∙ value
+          ∙ ap₂ (λ (a b : ℕ). (a + f * b) % q) (c.todo (s + i) (le_refl (s + i))) (sym moved)
           ∙ ap (λ (k : ℕ). (at x₀ k + f * at (up s y) k) % q) (sym e)
-      go j (no no_e) l m = get_or-set_other x i j v zero no_e ∙ c.done j (omega arith) m
+      go j (no no_e) l m = get_or-set_other x (s + i) j v zero no_e ∙ c.done j (omega arith) m
 
   -- y has only m cells that are not 0
-  pub add_done : (m i : ℕ) (x : List ℕ) → Clear m n y → s + m ≤ i → Adding n q f s x₀ y x i → Added n q f s x₀ y x
-  add_done m i x none h c = record { long = c.long; cells = λ j l. go j (dec_le (suc j) i) l }
+  pub add_done : (m i : ℕ) (x : List ℕ) → Clear m n y → m ≤ i → Adding n q f s x₀ y x i → Added n q f s x₀ y x
+  add_done m i x none h c = record { long = c.long; cells = λ j l. go j (dec_le (suc j) (s + i)) l }
     where
-      go : (j : ℕ) → Dec (j < i) → j < n → at x j ≡ (at x₀ j + f * at (up s y) j) % q
+      go : (j : ℕ) → Dec (j < s + i) → j < n → at x j ≡ (at x₀ j + f * at (up s y) j) % q
       go j (yes l) b = c.done j l b
       go j (no l) b =
           c.todo j (omega arith)
-          ∙ nothing j b (up_from s y j (omega (arith, c.from)) ∙ none (j - s) (omega (arith, c.from)) (omega arith))
+          ∙ nothing j b (up_from s y j (omega arith) ∙ none (j - s) (omega arith) (omega arith))

@@ -21,11 +21,13 @@ use Rattle.recurrence.proofs.Steps.{case_stays, case_added, case_cancelled, g_at
 use Rattle.recurrence.proofs.Theorem.{d_lt, length_le}
 use Rattle.recurrence.proofs.Working.{steps_at_at}
 use Rattle.steps.specs.Sizes.{max_terms, max_rows}
-use Rattle.steps.specs.declared.Ring.{Ring}
+use Rattle.steps.specs.declared.ring.Ring.{Ring}
+use Rattle.steps.specs.declared.Rows.{Rows}
+use Rattle.steps.specs.declared.Seen.{Seen}
 use Rattle.steps.specs.declared.StepRecord.{StepRecord}
 use Rattle.steps.specs.declared.Told.{Told}
-use Rattle.steps.specs.Run.{Setting}
-use Rattle.steps.specs.State.{Lens, Looks}
+use Rattle.steps.specs.Passes.{Ready}
+use Rattle.steps.specs.State.{RowsAt, Looks}
 use Rattle.steps.specs.Log.{step_record, packed, unpacked, words, overlaid, Narrow, Noted, power_of, told_of, described_of}
 
 -- records are equal by their fields
@@ -181,57 +183,54 @@ unfolding told_of
 told_case e len u = number_low (case_of e u (at len (e - 1 - u)))
 
 -- the least that makes a record's numbers small enough for a word
-pub narrow_described : (ring : Ring) (len us ts : List ℕ) (k i : ℕ) → ring.q < 65536 → ring.e ≤ max_rows → k < max_terms → i < ring.e → at len i ≤ k
-    → at us i ≤ ring.e → at ts i ≤ ring.q → Narrow (described_of ring len us ts k i)
+pub narrow_described : (ring : Ring) (rows : Rows) (seen : Seen) (k i : ℕ) → k < max_terms → i < ring.e → Ready ring k rows seen
+    → Narrow (described_of ring rows seen k i)
 unfolding described_of
-narrow_described ring len us ts k i small few early inside short low least =
+narrow_described ring rows seen k i early inside ready =
     record {
-      power = small;
+      power = ring.fit.small;
       k = early;
-      row = omega arith;
-      length = omega arith;
-      u = omega arith;
-      theta = omega arith;
-      g = omega (arith, told_g ring.e len (at us i));
-      case = told_case ring.e len (at us i);
+      row = omega (arith, ring.fit.few);
+      length = omega (arith, ready.early i inside);
+      u = omega (arith, ready.powers i inside, ring.fit.few);
+      theta = omega (arith, ready.rests i inside, ring.fit.small);
+      g = omega (arith, told_g ring.e rows.length (at seen.u i), ring.fit.few);
+      case = told_case ring.e rows.length (at seen.u i);
     }
 
-module _ (ring : Ring) (S : List ℕ) (st : Setting ring S) (k : ℕ) (len us ts : List ℕ) (ll : Lens ring S k len) (lk : Looks ring S k us ts) where
-  pub us_low : (i : ℕ) → i < ring.e → at us i ≤ ring.e
-  us_low i h = omega (arith, lk.powers i h, valuation_le ring.e ring.p (d_at ring.p ring.e S i k))
-
-  pub described_is : (i : ℕ) → i < ring.e → described_of ring len us ts k i ≡ step_record (step_at S (power_of ring) k i)
+module _ (ring : Ring) (S : List ℕ) (k : ℕ) (rows : Rows) (seen : Seen) (rs : RowsAt ring S k rows) (lk : Looks ring S k seen) where
+  pub described_is : (i : ℕ) → i < ring.e → described_of ring rows seen k i ≡ step_record (step_at S (power_of ring) k i)
   unfolding step_at partner described_of told_of
   described_is i h =
-      same_record st.whole refl refl (ll.sizes i h) u_is (lk.rests i h) (ap₂ (λ (c : Case) (x : ℕ). partner_told c ring.e x) case_is g_is) (ap case_number case_is)
+      same_record ring.fit.whole refl refl (rs.sizes i h) u_is (lk.rests i h) (ap₂ (λ (c : Case) (x : ℕ). partner_told c ring.e x) case_is g_is) (ap case_number case_is)
     where
-      u_is : at us i ≡ u_at ring.p ring.e S i k
+      u_is : at seen.u i ≡ u_at ring.p ring.e S i k
       u_is = lk.powers i h
 
-      g_is : ring.e - 1 - at us i ≡ g_at ring.p ring.e S i k
+      g_is : ring.e - 1 - at seen.u i ≡ g_at ring.p ring.e S i k
       g_is = ap (λ (x : ℕ). ring.e - 1 - x) u_is
 
-      case_is : case_of ring.e (at us i) (at len (ring.e - 1 - at us i)) ≡ case_of ring.e (u_at ring.p ring.e S i k) (L-at ring.p ring.e S (g_at ring.p ring.e S i k) k)
-      case_is = ap₂ (case_of ring.e) u_is (ll.sizes (ring.e - 1 - at us i) (omega arith) ∙ ap (λ (x : ℕ). L-at ring.p ring.e S x k) g_is)
+      case_is : case_of ring.e (at seen.u i) (at rows.length (ring.e - 1 - at seen.u i)) ≡ case_of ring.e (u_at ring.p ring.e S i k) (L-at ring.p ring.e S (g_at ring.p ring.e S i k) k)
+      case_is = ap₂ (case_of ring.e) u_is (rs.sizes (ring.e - 1 - at seen.u i) (omega arith) ∙ ap (λ (x : ℕ). L-at ring.p ring.e S x k) g_is)
 
   -- so are the words noted in a step
-  pub noted_described : (first : ℕ) (log log' : List ℕ) → Noted first ring.e (λ i. packed (described_of ring len us ts k i)) log log'
+  pub noted_described : (first : ℕ) (log log' : List ℕ) → Noted first ring.e (λ i. packed (described_of ring rows seen k i)) log log'
       → Noted first ring.e (λ i. packed (step_record (step_at S (power_of ring) k i))) log log'
   noted_described first log log' t =
       record { long = t.long; new = λ i l h. t.new i l h ∙ ap packed (described_is i l); before = t.before; behind = t.behind }
 
 -- ---- the records of n steps
 
-abbrev pub word_at : Ring → List ℕ → ℕ → ℕ → ℕ
-word_at ring S n i = packed (step_record (get_or (steps_at S (power_of ring) n) i no_step))
+abbrev pub word_at : PrimePower → List ℕ → ℕ → ℕ → ℕ
+word_at f S n i = packed (step_record (get_or (steps_at S f n) i no_step))
 
 -- those of one step more
-pub noted_step : (ring : Ring) (S : List ℕ) (n k first place : ℕ) (x y z : List ℕ) → k < n → place ≡ first + k * ring.e
-    → Noted first (k * ring.e) (word_at ring S n) x y → Noted place ring.e (λ i. packed (step_record (step_at S (power_of ring) k i))) y z
-    → Noted first ((k + 1) * ring.e) (word_at ring S n) x z
-noted_step ring S n k first place x y z l at_place a b =
-    noted_more first (k * ring.e) ring.e (word_at ring S n) (λ i. packed (step_record (step_at S (power_of ring) k i))) (word_at ring S n) place ((k + 1) * ring.e) at_place
-    (omega arith) (λ i h. refl) (λ i h. ap (λ s. packed (step_record s)) (sym (steps_at_at S (power_of ring) n k i no_step l h))) a b
+pub noted_step : (f : PrimePower) (S : List ℕ) (n k first place : ℕ) (x y z : List ℕ) → k < n → place ≡ first + k * f.exponent
+    → Noted first (k * f.exponent) (word_at f S n) x y → Noted place f.exponent (λ i. packed (step_record (step_at S f k i))) y z
+    → Noted first ((k + 1) * f.exponent) (word_at f S n) x z
+noted_step f S n k first place x y z l at_place a b =
+    noted_more first (k * f.exponent) f.exponent (word_at f S n) (λ i. packed (step_record (step_at S f k i))) (word_at f S n) place ((k + 1) * f.exponent) at_place
+    (omega arith) (λ i h. refl) (λ i h. ap (λ s. packed (step_record s)) (sym (steps_at_at S f n k i no_step l h))) a b
 
 -- ---- a sheet's words can be read back
 

@@ -4,7 +4,7 @@ use mathlib.Core.Path.{◌≡◌, refl, sym, ap, ap₂, ◌∙◌, subst}
 use mathlib.Core.Logic.{◌≢◌}
 use mathlib.Core.List.{List, []}
 use Prim.Native.Nat.{ℕ, zero, suc, ◌+◌, ◌*◌, ◌-◌, ◌%◌, ◌^◌, ◌≤◌, ◌<◌}
-use native.Mathlib.Nat.{mod-lt, pow-zero, pos_of_ne-zero, mul_assoc}
+use native.Mathlib.Nat.{mod-lt, pow-zero, pow-le-pow_left, pow-le-pow_right, pos_of_ne-zero, mul_assoc}
 use native.Mathlib.Numerals.{add-one}
 use native.Mathlib.Decide.{dec_le, dec_lt}
 use native.Mathlib.Omega.{arith}
@@ -16,7 +16,7 @@ use Rattle.residue.specs.Units.{Coprime, inverse}
 use Rattle.residue.specs.Valuation.{valuation, cofactor}
 use Rattle.residue.proofs.Congruence.{rfl, of_eq, sy, tr, mul, modulo, same_below, q_pos, pow_lt}
 use Rattle.residue.proofs.Units.{nonzero, prime_power_coprime}
-use Rattle.residue.proofs.Valuation.{cofactor_le, cofactor_bare}
+use Rattle.residue.proofs.Valuation.{valuation_le, cofactor_le, cofactor_bare}
 use Rattle.recurrence.specs.Polynomial.{conv, up, Pair}
 use Rattle.recurrence.specs.Steps.{Older, multiplier, row_at, d_at, u_at, θ-at, L-at, older_at}
 use Rattle.recurrence.proofs.Pairs.{conv_cong}
@@ -24,14 +24,38 @@ use Rattle.recurrence.proofs.Polynomial.{at_combine, at_up}
 use Rattle.recurrence.proofs.Steps.{g_at, row_start, older_kept, older_grown, next_stays, next_added, next_cancelled}
 use Rattle.recurrence.proofs.Theorem.{qp, d_lt, reduced, start_length, length_le, past_a, d_of_a, length_stays, length_kept, length_grows}
 use Rattle.steps.specs.Sizes.{max_cells, max_terms, max_rows}
-use Rattle.steps.specs.declared.Ring.{Ring}
-use Rattle.steps.specs.Run.{Below, Setting}
-use Rattle.steps.specs.Passes.{Shape, Starting, next_of, next_at, Planned, Stocked, Changing, Memory, Settled, Settling, Grows}
-use Rattle.steps.specs.State.{Rows, Lens, Looks, Kept, Keeps, State}
+use Rattle.steps.specs.declared.ring.Ring.{Ring}
+use Rattle.steps.specs.declared.Rows.{Rows}
+use Rattle.steps.specs.declared.Memory.{Memory}
+use Rattle.steps.specs.declared.Seen.{Seen}
+use Rattle.steps.specs.declared.Plan.{Plan}
+use Rattle.steps.specs.declared.Machine.{Machine}
+use Rattle.steps.specs.Fit.{Fit}
+use Rattle.steps.specs.Run.{Below}
+use Rattle.steps.specs.Passes.{Shape, Starting, Ready, next_of, next_at, Planned, Stocked, Changing, Remembers, Settled, Settling, Grows}
+use Rattle.steps.specs.State.{RowsAt, Looks, Kept, Keeps, State}
 use Rattle.steps.proofs.Cells.{up_same}
 use Rattle.steps.proofs.Passes.{next_stay, next_flat, next_grow, next_rose, next_up}
 
-module _ (ring : Ring) (S : List ℕ) (st : Setting ring S) where
+-- a prime power below 65,536 gives few rows
+pub few_rows : (p e q : ℕ) → 1 < p → q ≡ p ^ e → q < 65536 → e ≤ max_rows
+few_rows p e q big whole small = go (dec_le e max_rows)
+  where
+    go : Dec (e ≤ max_rows) → e ≤ max_rows
+    go (yes h) = h
+    go (no h) =
+        let up : 2 ^ 16 ≤ p ^ 16 = pow-le-pow_left big 16 in
+        let on : p ^ 16 ≤ p ^ e = pow-le-pow_right {n = p} (omega arith) {i = 16} {j = e} (omega arith) in
+        absurd (omega arith)
+
+module _ (ring : Ring) where
+  pub base_up : zero < ring.p
+  base_up = omega (arith, ring.fit.prime.big)
+
+  pub whole_low : ring.p ^ ring.e < 65536
+  whole_low = omega (arith, ring.fit.whole, ring.fit.small)
+
+module _ (ring : Ring) (S : List ℕ) where
   abbrev p : ℕ
   p = ring.p
 
@@ -41,35 +65,28 @@ module _ (ring : Ring) (S : List ℕ) (st : Setting ring S) where
   abbrev q : ℕ
   q = ring.q
 
-  pub q_up : zero < q
-  q_up = subst (λ (x : ℕ). zero < x) (sym st.whole) (q_pos p e st.prime.big)
-
-  pub p_up : zero < p
-  p_up = omega (arith, st.prime.big)
-
-  pub whole_low : p ^ e < 65536
-  whole_low = omega (arith, st.whole, st.small)
+  abbrev st : Fit p e q ring.scale
+  st = ring.fit
 
   module _ (k : ℕ) where
     -- ---- the discrepancies
 
-    pub len_low : (len : List ℕ) → Lens ring S k len → (η : ℕ) → η < e → at len η ≤ k
-    len_low len ls η h = omega (arith, ls.sizes η h, length_le p e st.prime st.pos S η k h)
+    module _ (rows : Rows) (rs : RowsAt ring S k rows) where
+      pub len_low : (η : ℕ) → η < e → at rows.length η ≤ k
+      len_low η h = omega (arith, rs.sizes η h, length_le p e st.prime st.pos S η k h)
 
-    pub row_low : (cur : List (List ℕ)) → Rows ring S k cur → (η : ℕ) → η < e → Below max_cells q (get_or cur η [])
-    row_low cur rs η h i l = omega (arith, rs.cells η i h l, (reduced p e st.prime st.pos S η k h).0 i, st.whole)
+      pub row_low : (η : ℕ) → η < e → Below max_cells q (get_or rows.a η [])
+      row_low η h i l = omega (arith, rs.cells η i h l, (reduced p e st.prime st.pos S η k h).0 i, st.whole)
 
-    pub row_clear : (cur : List (List ℕ)) (len : List ℕ) → k < max_terms → Rows ring S k cur → Lens ring S k len → (η : ℕ) → η < e
-        → (i : ℕ) → at len η < i → i ≤ k → at (get_or cur η []) i ≡ zero
-    row_clear cur len kk rs ls η h i a b =
-        rs.cells η i h (omega arith) ∙ past_a p e st.prime st.pos S η k i h (omega (arith, ls.sizes η h))
+      pub row_clear : k < max_terms → (η : ℕ) → η < e → (i : ℕ) → at rows.length η < i → i ≤ k → at (get_or rows.a η []) i ≡ zero
+      row_clear kk η h i a b =
+          rs.cells η i h (omega arith) ∙ past_a p e st.prime st.pos S η k i h (omega (arith, rs.sizes η h))
 
-    pub d_code : (cur : List (List ℕ)) → k < max_terms → Rows ring S k cur → (η : ℕ) → η < e
-        → conv (at S) (at (get_or cur η [])) k % q ≡ d_at p e S η k
-    d_code cur kk rs η h =
-        (conv_cong {q = q} (at S) (at S) (at (get_or cur η [])) (at (row_at p e S η k).a) k (λ i l. rfl) (λ i l. of_eq (rs.cells η i h (omega arith)))).same
-        ∙ ap (λ (x : ℕ). conv (at S) (at (row_at p e S η k).a) k % x) st.whole
-        ∙ sym (d_of_a p e st.prime st.pos S η k h)
+      pub d_code : k < max_terms → (η : ℕ) → η < e → conv (at S) (at (get_or rows.a η [])) k % q ≡ d_at p e S η k
+      d_code kk η h =
+          (conv_cong {q = q} (at S) (at S) (at (get_or rows.a η [])) (at (row_at p e S η k).a) k (λ i l. rfl) (λ i l. of_eq (rs.cells η i h (omega arith)))).same
+          ∙ ap (λ (x : ℕ). conv (at S) (at (row_at p e S η k).a) k % x) st.whole
+          ∙ sym (d_of_a p e st.prime st.pos S η k h)
 
     θ-lt : (η : ℕ) → θ-at p e S η k < q
     θ-lt η =
@@ -78,7 +95,7 @@ module _ (ring : Ring) (S : List ℕ) (st : Setting ring S) where
           st.whole,
           cofactor_le e p (d_at p e S η k) (q - 1) (omega (arith, st.whole, pow_lt p e st.prime.big st.pos, pow-zero p))
               (omega (arith, st.whole, d_lt p e st.prime st.pos S η k)),
-          q_up,
+          st.some,
         )
 
     θ-bare : (η : ℕ) → θ-at p e S η k % p ≢ zero
@@ -94,53 +111,61 @@ module _ (ring : Ring) (S : List ℕ) (st : Setting ring S) where
 
     -- ---- the lengths
 
-    module _ (len us ts : List ℕ) (ls : Lens ring S k len) (lk : Looks ring S k us ts) where
-      pub ts_low : (η : ℕ) → η < e → at ts η ≤ q
-      ts_low η h = omega (arith, lk.rests η h, θ-lt η)
+    module _ (rows : Rows) (seen : Seen) (rs : RowsAt ring S k rows) (lk : Looks ring S k seen) where
+      pub ready_code : Shape rows.a → Ready ring k rows seen
+      ready_code shape =
+          record {
+            shape = shape;
+            low = row_low rows rs;
+            early = len_low rows rs;
+            powers = λ η h. omega (arith, lk.powers η h, valuation_le e p (d_at p e S η k));
+            rests = λ η h. omega (arith, lk.rests η h, θ-lt η);
+          }
 
       -- the row that answers row η
-      same_g : (η : ℕ) → η < e → e - 1 - at us η ≡ g_at p e S η k
+      same_g : (η : ℕ) → η < e → e - 1 - at seen.u η ≡ g_at p e S η k
       same_g η h = ap (λ (u : ℕ). e - 1 - u) (lk.powers η h)
 
-      g_low : (η : ℕ) → e - 1 - at us η < e
+      g_low : (η : ℕ) → e - 1 - at seen.u η < e
       g_low η = omega (arith, st.pos)
 
-      len_g : (η : ℕ) → η < e → at len (e - 1 - at us η) ≡ L-at p e S (g_at p e S η k) k
-      len_g η h = ls.sizes (e - 1 - at us η) (g_low η) ∙ ap (λ (j : ℕ). L-at p e S j k) (same_g η h)
+      len_g : (η : ℕ) → η < e → at rows.length (e - 1 - at seen.u η) ≡ L-at p e S (g_at p e S η k) k
+      len_g η h = rs.sizes (e - 1 - at seen.u η) (g_low η) ∙ ap (λ (j : ℕ). L-at p e S j k) (same_g η h)
 
-      pub next_code : (η : ℕ) → η < e → next_at len us k e η ≡ L-at p e S η (suc k)
+      pub next_code : (η : ℕ) → η < e → next_at rows.length seen.u k e η ≡ L-at p e S η (suc k)
       next_code η h = go (dec_lt u e) (dec_le (l + m) k)
         where
           l : ℕ
-          l = at len η
+          l = at rows.length η
 
           u : ℕ
-          u = at us η
+          u = at seen.u η
 
           m : ℕ
-          m = at len (e - 1 - at us η)
+          m = at rows.length (e - 1 - at seen.u η)
 
-          go : Dec (at us η < e) → Dec (at len η + at len (e - 1 - at us η) ≤ k) → next_at len us k e η ≡ L-at p e S η (suc k)
+          go : Dec (at seen.u η < e) → Dec (at rows.length η + at rows.length (e - 1 - at seen.u η) ≤ k) → next_at rows.length seen.u k e η ≡ L-at p e S η (suc k)
           go (yes a) (yes b) =
               next_grow l u m k e a b
-              ∙ (let z = (length_grows p e st.prime st.pos S η k h (omega (arith, lk.powers η h)) (omega (arith, ls.sizes η h, len_g η h))).0 in
+              ∙ (let z = (length_grows p e st.prime st.pos S η k h (omega (arith, lk.powers η h)) (omega (arith, rs.sizes η h, len_g η h))).0 in
               omega (arith, len_g η h, z))
           go (yes a) (no b) =
-              next_flat l u m k e a (omega arith) ∙ ls.sizes η h
-              ∙ sym (length_kept p e st.prime st.pos S η k h (omega (arith, ls.sizes η h, len_g η h)))
+              next_flat l u m k e a (omega arith) ∙ rs.sizes η h
+              ∙ sym (length_kept p e st.prime st.pos S η k h (omega (arith, rs.sizes η h, len_g η h)))
           go (no a) b =
-              next_stay l u m k e (omega arith) ∙ ls.sizes η h
+              next_stay l u m k e (omega arith) ∙ rs.sizes η h
               ∙ sym (length_stays p e st.prime st.pos S η k h (omega (arith, lk.powers η h)))
 
       -- what `settle` has to be handed
-      pub grows_code : (next : List ℕ) → ((η : ℕ) → η < e → at next η ≡ next_at len us k e η) → (η : ℕ) → η < e → Grows ring k len next us ts η
-      grows_code next nx η h =
+      pub grows_code : Shape rows.a → (plan : Plan) → Planned ring k rows seen plan e → (η : ℕ) → η < e → Grows ring k rows.length plan seen η
+      grows_code shape plan pl η h =
           record {
-            up = omega (arith, nx η h, next_up l u m k e);
-            most = omega (arith, nx η h, next_code η h, length_le p e st.prime st.pos S η (suc k) h);
+            up = omega (arith, pl.lens η h, next_up l u m k e);
+            most = omega (arith, pl.lens η h, next_code η h, length_le p e st.prime st.pos S η (suc k) h);
+            wide = λ z. ap length (pl.aside η h (omega (arith, pl.lens η h))) ∙ shape.wide (e - 1 - u) (omega (arith, st.few, g_low η));
             some = λ z. (rose z).0;
             fits = λ z.
-                let v = (length_grows p e st.prime st.pos S η k h (omega (arith, lk.powers η h, (rose z).0)) (omega (arith, ls.sizes η h, len_g η h, (rose z).1))).1 in
+                let v = (length_grows p e st.prime st.pos S η k h (omega (arith, lk.powers η h, (rose z).0)) (omega (arith, rs.sizes η h, len_g η h, (rose z).1))).1 in
                 omega (arith, v, lk.powers (e - 1 - u) (g_low η), ap (λ (j : ℕ). u_at p e S j k) (same_g η h));
             unit = λ z. omega (arith, lk.rests (e - 1 - u) (g_low η), θ-lt (e - 1 - u));
             some_unit = λ z. omega (arith, lk.rests (e - 1 - u) (g_low η), θ-some (e - 1 - u));
@@ -148,24 +173,24 @@ module _ (ring : Ring) (S : List ℕ) (st : Setting ring S) where
           }
         where
           l : ℕ
-          l = at len η
+          l = at rows.length η
 
           u : ℕ
-          u = at us η
+          u = at seen.u η
 
           m : ℕ
-          m = at len (e - 1 - at us η)
+          m = at rows.length (e - 1 - at seen.u η)
 
-          rose : l < at next η → (u < e) × (l + m ≤ k) × (next_of l u m k e ≡ k + 1 - m)
-          rose z = next_rose l u m k e (omega (arith, nx η h))
+          rose : l < at plan.length η → (u < e) × (l + m ≤ k) × (next_of l u m k e ≡ k + 1 - m)
+          rose z = next_rose l u m k e (omega (arith, pl.lens η h))
 
       -- ---- the rows
 
-      module _ (old : List (List ℕ)) (when reach mult : List ℕ) (ks : Keeps ring S k old when reach mult) where
-        some : (g : ℕ) → g < e → zero < at len g → zero < L-at p e S g k
-        some g h z = omega (arith, ls.sizes g h)
+      module _ (memory : Memory) (ks : Keeps ring S k memory) where
+        some : (g : ℕ) → g < e → zero < at rows.length g → zero < L-at p e S g k
+        some g h z = omega (arith, rs.sizes g h)
 
-        pub stocked_code : Stocked ring k old len when reach mult
+        pub stocked_code : Stocked ring k rows.length memory
         stocked_code =
             record {
               early = λ g h z. (ks.kept g h (some g h z)).early;
@@ -209,11 +234,12 @@ module _ (ring : Ring) (S : List ℕ) (st : Setting ring S) where
             f : ℕ
             f = multiplier p e (d_at p e S η k) o
 
-        pub rows_code : (cur₀ cur : List (List ℕ)) → Rows ring S k cur₀ → Changing ring k old len when mult us ts cur₀ cur e → Rows ring S (suc k) cur
-        rows_code cur₀ cur rs ch = record { cells = λ η i h l. go η i h l (dec_lt (at us η) e) (dec_lt zero (at len (e - 1 - at us η))) }
+        cells_code : (rows' : Rows) → Changing ring k memory seen rows rows' e → (η i : ℕ) → η < e → i < max_cells
+            → at (get_or rows'.a η []) i ≡ at (row_at p e S η (suc k)).a i
+        cells_code rows' ch η i h l = go η i h l (dec_lt (at seen.u η) e) (dec_lt zero (at rows.length (e - 1 - at seen.u η)))
           where
-            go : (η i : ℕ) → η < e → i < max_cells → Dec (at us η < e) → Dec (zero < at len (e - 1 - at us η))
-                → at (get_or cur η []) i ≡ at (row_at p e S η (suc k)).a i
+            go : (η i : ℕ) → η < e → i < max_cells → Dec (at seen.u η < e) → Dec (zero < at rows.length (e - 1 - at seen.u η))
+                → at (get_or rows'.a η []) i ≡ at (row_at p e S η (suc k)).a i
             go η i h l (no a) z =
                 ap (λ (x : List ℕ). at x i) ((ch.done η h).stay (omega arith)) ∙ rs.cells η i h l
                 ∙ ap (λ (w : Pair). at w.a i) (sym (next_stays p e S η k h (omega (arith, lk.powers η h))))
@@ -222,40 +248,39 @@ module _ (ring : Ring) (S : List ℕ) (st : Setting ring S) where
                 ∙ ap (λ (w : Pair). at w.a i) (sym (next_added p e S η k h (omega (arith, lk.powers η h)) (omega (arith, len_g η h))))
             go η i h l (yes a) (yes z) =
                 ((ch.done η h).moved a z).cells i l
-                ∙ ap (λ (x : ℕ). (at (get_or cur₀ η []) i + (q - at ts η * at mult g % q) * at (up (k - at when g) (get_or old g [])) i) % x) st.whole
-                ∙ ap₂ (λ (x y : ℕ). (x + y * at (up (k - at when g) (get_or old g [])) i) % p ^ e) (rs.cells η i h l)
-                (factor_code (d_at p e S η k) g (at ts η) (at us η) (at mult g) o (lk.rests η h) (sym (lk.powers η h)) a refl kp.scale)
+                ∙ ap (λ (x : ℕ). (at (get_or rows.a η []) i + (q - at seen.theta η * at memory.mult g % q) * at (up (k - at memory.when g) (get_or memory.a g [])) i) % x) st.whole
+                ∙ ap₂ (λ (x y : ℕ). (x + y * at (up (k - at memory.when g) (get_or memory.a g [])) i) % p ^ e) (rs.cells η i h l)
+                (factor_code (d_at p e S η k) g (at seen.theta η) (at seen.u η) (at memory.mult g) o (lk.rests η h) (sym (lk.powers η h)) a refl kp.scale)
                 ∙ ap (λ (x : ℕ). (at (row_at p e S η k).a i + multiplier p e (d_at p e S η k) o * x) % p ^ e)
-                (ap (λ (x : ℕ). at (up (k - x) (get_or old g [])) i) kp.time ∙ up_same (k - o.r) (get_or old g []) o.pair.a max_cells i kp.same l)
+                (ap (λ (x : ℕ). at (up (k - x) (get_or memory.a g [])) i) kp.time ∙ up_same (k - o.r) (get_or memory.a g []) o.pair.a max_cells i kp.same l)
                 ∙ ap (λ (j : ℕ). (at (row_at p e S η k).a i + multiplier p e (d_at p e S η k) (older_at p e S j k)
                 * at (up (k - (older_at p e S j k).r) (older_at p e S j k).pair.a) i) % p ^ e) (same_g η h)
                 ∙ sym (cancelled_at η i h (omega (arith, lk.powers η h)) (omega (arith, len_g η h)))
               where
                 g : ℕ
-                g = e - 1 - at us η
+                g = e - 1 - at seen.u η
 
                 o : Older
                 o = older_at p e S g k
 
-                kp : Kept ring k g o (get_or old g []) (at when g) (at reach g) (at mult g)
+                kp : Kept ring k g o (get_or memory.a g []) (at memory.when g) (at memory.reach g) (at memory.mult g)
                 kp = ks.kept g (g_low η) (some g (g_low η) z)
 
         -- ---- what the rows remember
 
-        module _ (cur saved : List (List ℕ)) (next : List ℕ) (rs : Rows ring S k cur) (pl : Planned k e len us cur next saved e)
-            (old' : List (List ℕ)) (len' when' reach' mult' : List ℕ)
-            (se : Settling ring k saved next us ts old len when reach mult old' len' when' reach' mult' e) where
-          next_size : (η : ℕ) → η < e → at next η ≡ L-at p e S η (suc k)
+        module _ (plan : Plan) (pl : Planned ring k rows seen plan e) (memory' : Memory) (len' : List ℕ)
+            (se : Settling ring k plan seen memory rows.length memory' len' e) where
+          next_size : (η : ℕ) → η < e → at plan.length η ≡ L-at p e S η (suc k)
           next_size η h = pl.lens η h ∙ next_code η h
 
-          pub lens_code : Lens ring S (suc k) len'
-          lens_code = record { sizes = λ η h. (se.done η h).new.grown ∙ next_size η h }
+          sizes_code : (η : ℕ) → η < e → at len' η ≡ L-at p e S η (suc k)
+          sizes_code η h = (se.done η h).new.grown ∙ next_size η h
 
           -- a row that kept its length
-          kept_old : (η : ℕ) → η < e → zero < L-at p e S η (suc k) → at next η ≤ at len η
-              → Kept ring (suc k) η (older_at p e S η (suc k)) (get_or old' η []) (at when' η) (at reach' η) (at mult' η)
+          kept_old : (η : ℕ) → η < e → zero < L-at p e S η (suc k) → at plan.length η ≤ at rows.length η
+              → Kept ring (suc k) η (older_at p e S η (suc k)) (get_or memory'.a η []) (at memory'.when η) (at memory'.reach η) (at memory'.mult η)
           kept_old η h z f =
-              subst (λ (o : Older). Kept ring (suc k) η o (get_or old' η []) (at when' η) (at reach' η) (at mult' η)) (sym (older_kept p e S η k level))
+              subst (λ (o : Older). Kept ring (suc k) η o (get_or memory'.a η []) (at memory'.when η) (at memory'.reach η) (at memory'.mult η)) (sym (older_kept p e S η k level))
               (record {
                 same = λ i l. ap (λ (x : List ℕ). at x i) (m.row_old f) ∙ kp.same i l;
                 time = m.when_old f ∙ kp.time;
@@ -266,22 +291,22 @@ module _ (ring : Ring) (S : List ℕ) (st : Setting ring S) where
                 scale = m.mult_old f ∙ kp.scale;
               })
             where
-              m : Memory ring k saved len next us ts old when reach mult η (get_or old' η []) (at len' η) (at when' η) (at reach' η) (at mult' η)
+              m : Remembers ring k plan seen memory rows.length η (get_or memory'.a η []) (at len' η) (at memory'.when η) (at memory'.reach η) (at memory'.mult η)
               m = se.done η h
 
               level : L-at p e S η (suc k) ≤ L-at p e S η k
-              level = omega (arith, next_size η h, ls.sizes η h)
+              level = omega (arith, next_size η h, rs.sizes η h)
 
-              kp : Kept ring k η (older_at p e S η k) (get_or old η []) (at when η) (at reach η) (at mult η)
+              kp : Kept ring k η (older_at p e S η k) (get_or memory.a η []) (at memory.when η) (at memory.reach η) (at memory.mult η)
               kp = ks.kept η h (omega (arith, level))
 
           -- a row that grew
-          kept_new : (η : ℕ) → η < e → at len η < at next η
-              → Kept ring (suc k) η (older_at p e S η (suc k)) (get_or old' η []) (at when' η) (at reach' η) (at mult' η)
+          kept_new : (η : ℕ) → η < e → at rows.length η < at plan.length η
+              → Kept ring (suc k) η (older_at p e S η (suc k)) (get_or memory'.a η []) (at memory'.when η) (at memory'.reach η) (at memory'.mult η)
           kept_new η h f =
-              subst (λ (o : Older). Kept ring (suc k) η o (get_or old' η []) (at when' η) (at reach' η) (at mult' η)) (sym (older_grown p e S η k (omega (arith, next_size η h, ls.sizes η h))))
+              subst (λ (o : Older). Kept ring (suc k) η o (get_or memory'.a η []) (at memory'.when η) (at memory'.reach η) (at memory'.mult η)) (sym (older_grown p e S η k (omega (arith, next_size η h, rs.sizes η h))))
               (record {
-                same = λ i l. ap (λ (x : List ℕ). at x i) (m.row_new f ∙ pl.rows η h (omega (arith, pl.lens η h))) ∙ rs.cells g i (g_low η) l
+                same = λ i l. ap (λ (x : List ℕ). at x i) (m.row_new f ∙ pl.aside η h (omega (arith, pl.lens η h))) ∙ rs.cells g i (g_low η) l
                     ∙ ap (λ (j : ℕ). at (row_at p e S j k).a i) (same_g η h);
                 time = m.when_new f;
                 early = omega (arith, m.when_new f);
@@ -290,14 +315,14 @@ module _ (ring : Ring) (S : List ℕ) (st : Setting ring S) where
                 low = λ i. (reduced p e st.prime st.pos S G k G-low).0 i;
                 scale =
                     m.mult_new f
-                    ∙ ap (λ (x : ℕ). inverse x (at ts g) * p ^ (e - 1 - η - at us g) % x) st.whole
+                    ∙ ap (λ (x : ℕ). inverse x (at seen.theta g) * p ^ (e - 1 - η - at seen.u g) % x) st.whole
                     ∙ ap₂ (λ (x y : ℕ). inverse (p ^ e) x * p ^ (e - 1 - η - y) % p ^ e)
                     (lk.rests g (g_low η) ∙ ap (λ (j : ℕ). θ-at p e S j k) (same_g η h))
                     (lk.powers g (g_low η) ∙ ap (λ (j : ℕ). u_at p e S j k) (same_g η h));
               })
             where
               g : ℕ
-              g = e - 1 - at us η
+              g = e - 1 - at seen.u η
 
               G : ℕ
               G = g_at p e S η k
@@ -305,53 +330,49 @@ module _ (ring : Ring) (S : List ℕ) (st : Setting ring S) where
               G-low : G < e
               G-low = omega (arith, st.pos)
 
-              m : Settled ring k saved len next us ts η (get_or old' η []) (at len' η) (at when' η) (at reach' η) (at mult' η)
+              m : Settled ring k plan seen rows.length η (get_or memory'.a η []) (at len' η) (at memory'.when η) (at memory'.reach η) (at memory'.mult η)
               m = (se.done η h).new
 
-              rose : (at us η < e) × (at len η + at len (e - 1 - at us η) ≤ k) × (next_of (at len η) (at us η) (at len (e - 1 - at us η)) k e ≡ k + 1 - at len (e - 1 - at us η))
-              rose = next_rose (at len η) (at us η) (at len (e - 1 - at us η)) k e (omega (arith, pl.lens η h))
+              rose : (at seen.u η < e) × (at rows.length η + at rows.length (e - 1 - at seen.u η) ≤ k) × (next_of (at rows.length η) (at seen.u η) (at rows.length (e - 1 - at seen.u η)) k e ≡ k + 1 - at rows.length (e - 1 - at seen.u η))
+              rose = next_rose (at rows.length η) (at seen.u η) (at rows.length (e - 1 - at seen.u η)) k e (omega (arith, pl.lens η h))
 
-          pub keeps_code : Keeps ring S (suc k) old' when' reach' mult'
-          keeps_code = record { kept = λ η h z. go η h z (dec_lt (at len η) (at next η)) }
+          pub keeps_code : Keeps ring S (suc k) memory'
+          keeps_code = record { kept = λ η h z. go η h z (dec_lt (at rows.length η) (at plan.length η)) }
             where
-              go : (η : ℕ) → η < e → zero < L-at p e S η (suc k) → Dec (at len η < at next η)
-                  → Kept ring (suc k) η (older_at p e S η (suc k)) (get_or old' η []) (at when' η) (at reach' η) (at mult' η)
+              go : (η : ℕ) → η < e → zero < L-at p e S η (suc k) → Dec (at rows.length η < at plan.length η)
+                  → Kept ring (suc k) η (older_at p e S η (suc k)) (get_or memory'.a η []) (at memory'.when η) (at memory'.reach η) (at memory'.mult η)
               go η h z (yes f) = kept_new η h f
               go η h z (no f) = kept_old η h z (omega arith)
 
     -- one step of the whole state
-    pub step_code : (cur old : List (List ℕ)) (len when reach mult us ts next : List ℕ) (saved cur' old' : List (List ℕ)) (len' when' reach' mult' : List ℕ)
-        → State ring S k cur old len when reach mult → Looks ring S k us ts → Planned k e len us cur next saved e
-        → Changing ring k old len when mult us ts cur cur' e
-        → Settling ring k saved next us ts old len when reach mult old' len' when' reach' mult' e
-        → State ring S (suc k) cur' old' len' when' reach' mult'
-    step_code cur old len when reach mult us ts next saved cur' old' len' when' reach' mult' s lk pl ch se =
+    pub step_code : (before after : Machine) (rows' : Rows) (seen : Seen) (plan : Plan) → State ring S k before → Looks ring S k seen
+        → Planned ring k before.rows seen plan e → Changing ring k before.memory seen before.rows rows' e
+        → Settling ring k plan seen before.memory before.rows.length after.memory after.rows.length e → after.rows.a ≡ rows'.a → State ring S (suc k) after
+    step_code before after rows' seen plan s lk pl ch se same =
         record {
-          rows = rows_code len us ts s.lens lk old when reach mult s.keeps cur cur' s.rows ch;
-          lens = lens_code len us ts s.lens lk old when reach mult s.keeps cur saved next s.rows pl old' len' when' reach' mult' se;
-          keeps = keeps_code len us ts s.lens lk old when reach mult s.keeps cur saved next s.rows pl old' len' when' reach' mult' se;
-          shape_cur = ch.shape;
-          shape_old = se.shape;
-          long_len = se.long_len;
-          long_when = se.long_when;
-          long_reach = se.long_reach;
-          long_mult = se.long_mult;
+          rows =
+              record {
+                cells = λ η i h l. ap (λ (x : List (List ℕ)). at (get_or x η []) i) same ∙ cells_code before.rows seen s.rows lk before.memory s.keeps rows' ch η i h l;
+                sizes = sizes_code before.rows seen s.rows lk before.memory s.keeps plan pl after.memory after.rows.length se;
+              };
+          keeps = keeps_code before.rows seen s.rows lk before.memory s.keeps plan pl after.memory after.rows.length se;
+          shape_rows = subst Shape (sym same) ch.shape;
+          shape_memory = se.shape;
         }
 
   -- the state before any term
-  pub start_code : (cur₀ cur old : List (List ℕ)) (len when reach mult : List ℕ) → Starting p cur₀ cur e → Shape old → ((η : ℕ) → at len η ≡ zero)
-      → length len ≡ max_rows → length when ≡ max_rows → length reach ≡ max_rows → length mult ≡ max_rows → State ring S zero cur old len when reach mult
-  start_code cur₀ cur old len when reach mult s so none l1 l2 l3 l4 =
+  pub start_code : (machine : Machine) (a₀ : List (List ℕ)) → Starting p a₀ machine.rows.a e → Shape machine.memory.a → ((η : ℕ) → at machine.rows.length η ≡ zero)
+      → State ring S zero machine
+  start_code machine a₀ s shape none =
       record {
-        rows = record { cells = λ η i h l. s.done η i h ∙ ap (λ (w : Pair). at w.a i) (sym (row_start p e S η h)) };
-        lens = record { sizes = λ η h. none η ∙ sym (start_length p e st.prime st.pos S η h) };
+        rows =
+            record {
+              cells = λ η i h l. s.done η i h ∙ ap (λ (w : Pair). at w.a i) (sym (row_start p e S η h));
+              sizes = λ η h. none η ∙ sym (start_length p e st.prime st.pos S η h);
+            };
         keeps = record { kept = λ η h z. absurd (omega (arith, start_length p e st.prime st.pos S η h)) };
-        shape_cur = s.shape;
-        shape_old = so;
-        long_len = l1;
-        long_when = l2;
-        long_reach = l3;
-        long_mult = l4;
+        shape_rows = s.shape;
+        shape_memory = shape;
       }
 
   -- the lengths found so far

@@ -13,8 +13,13 @@ use Rattle.lists.specs.Table.{at}
 use Rattle.lists.proofs.Table.{each_next, each_skip, rest_next}
 use Rattle.residue.specs.Units.{inverse}
 use Rattle.steps.specs.Sizes.{max_cells, max_rows}
-use Rattle.steps.specs.declared.Ring.{Ring}
-use Rattle.steps.specs.Passes.{Shape, Blank, Starting, next_of, next_at, Planned, Memory, Settling}
+use Rattle.steps.specs.declared.ring.Ring.{Ring}
+use Rattle.steps.specs.declared.Rows.{Rows}
+use Rattle.steps.specs.declared.Memory.{Memory}
+use Rattle.steps.specs.declared.Seen.{Seen}
+use Rattle.steps.specs.declared.Plan.{Plan}
+use Rattle.steps.specs.declared.Machine.{Machine}
+use Rattle.steps.specs.Passes.{Shape, Blank, Starting, next_of, next_at, Planned, Changed, Changing, Remembers, Settling}
 use Rattle.steps.specs.State.{State}
 
 -- ---- rows of 129 cells
@@ -61,45 +66,59 @@ next_up l u m k e = go (dec_lt u e) (dec_le (l + m) k)
 
 -- ---- the lengths after a step, row after row
 
-module _ (k e : ℕ) (len us : List ℕ) (cur : List (List ℕ)) (next : List ℕ) (saved : List (List ℕ)) (i : ℕ) (s : Planned k e len us cur next saved i)
-    (small : i < max_rows) (v : ℕ) (value : v ≡ next_at len us k e i) where
-  long_next : length (set next i v) ≡ max_rows
-  long_next = length-set next i v ∙ s.long
-
-  lens_next : (η : ℕ) → η < i + 1 → at (set next i v) η ≡ next_at len us k e η
-  lens_next = each_next zero (λ (η : ℕ) (y : ℕ). y ≡ next_at len us k e η) next i v s.lens (omega (arith, s.long)) value
+module _ (ring : Ring) (k : ℕ) (rows : Rows) (seen : Seen) (plan : Plan) (i : ℕ) (s : Planned ring k rows seen plan i)
+    (small : i < max_rows) (v : ℕ) (value : v ≡ next_at rows.length seen.u k ring.e i) where
+  lens_next : (η : ℕ) → η < i + 1 → at (set plan.length i v) η ≡ next_at rows.length seen.u k ring.e η
+  lens_next = each_next zero (λ (η : ℕ) (y : ℕ). y ≡ next_at rows.length seen.u k ring.e η) plan.length i v s.lens (omega (arith, s.long)) value
 
   -- a row that keeps its length has nothing put aside
-  pub plan_skip : v ≤ at len i → Planned k e len us cur (set next i v) saved (i + 1)
+  pub plan_skip : v ≤ at rows.length i → Planned ring k rows seen (record { length = set plan.length i v; aside = plan.aside }) (i + 1)
   plan_skip h =
       record {
-        long = long_next;
-        shape = s.shape;
+        long = length-set plan.length i v ∙ s.long;
+        many = s.many;
         lens = lens_next;
-        rows = each_skip (λ (η : ℕ). at len η < next_at len us k e η → get_or saved η [] ≡ get_or cur (e - 1 - at us η) []) i s.rows (λ l. absurd (omega arith));
+        aside = each_skip (λ (η : ℕ). at rows.length η < next_at rows.length seen.u k ring.e η → get_or plan.aside η [] ≡ get_or rows.a (ring.e - 1 - at seen.u η) [])
+            i s.aside (λ l. absurd (omega arith));
       }
 
   -- for a row that grows, row e - 1 - u is
-  pub plan_next : (w : List ℕ) → length w ≡ max_cells → w ≡ get_or cur (e - 1 - at us i) [] → Planned k e len us cur (set next i v) (set saved i w) (i + 1)
-  plan_next w wide same =
+  pub plan_next : Planned ring k rows seen (record { length = set plan.length i v; aside = set plan.aside i (get_or rows.a (ring.e - 1 - at seen.u i) []) }) (i + 1)
+  plan_next =
       record {
-        long = long_next;
-        shape = shape_set saved i w s.shape wide;
+        long = length-set plan.length i v ∙ s.long;
+        many = length-set plan.aside i (get_or rows.a (ring.e - 1 - at seen.u i) []) ∙ s.many;
         lens = lens_next;
-        rows = each_next [] (λ (η : ℕ) (y : List ℕ). at len η < next_at len us k e η → y ≡ get_or cur (e - 1 - at us η) []) saved i w s.rows
-            (omega (arith, s.shape.many)) (λ l. same);
+        aside = each_next [] (λ (η : ℕ) (y : List ℕ). at rows.length η < next_at rows.length seen.u k ring.e η → y ≡ get_or rows.a (ring.e - 1 - at seen.u η) [])
+            plan.aside i (get_or rows.a (ring.e - 1 - at seen.u i) []) s.aside (omega (arith, s.many)) (λ l. refl);
       }
+
+-- ---- the a of the rows
+
+-- one row more is changed
+pub change_next : (ring : Ring) (k : ℕ) (memory : Memory) (seen : Seen) (rows₀ rows : Rows) (i : ℕ) (y : List ℕ) → Changing ring k memory seen rows₀ rows i
+    → i < max_rows → Changed ring k rows.length memory (at seen.u i) (at seen.theta i) (get_or rows.a i []) y
+    → Changing ring k memory seen rows₀ (record { a = set rows.a i y; length = rows.length }) (i + 1)
+change_next ring k memory seen rows₀ rows i y s small c =
+    record {
+      lens = s.lens;
+      shape = shape_set rows.a i y s.shape (c.long ∙ s.shape.wide i small);
+      done = each_next [] (λ (j : ℕ) (z : List ℕ). Changed ring k rows₀.length memory (at seen.u j) (at seen.theta j) (get_or rows₀.a j []) z)
+          rows.a i y s.done (omega (arith, s.shape.many))
+          (subst (λ (x : List ℕ). Changed ring k x memory (at seen.u i) (at seen.theta i) (get_or rows₀.a i []) y) s.lens
+          (subst (λ (x : List ℕ). Changed ring k rows.length memory (at seen.u i) (at seen.theta i) x y) (s.todo i (le_refl i)) c));
+      todo = rest_next [] rows.a rows₀.a i y s.todo;
+    }
 
 -- ---- what the rows remember
 
-module _ (ring : Ring) (k : ℕ) (saved : List (List ℕ)) (next us ts : List ℕ) (old₀ : List (List ℕ)) (len₀ when₀ reach₀ mult₀ : List ℕ)
-    (old : List (List ℕ)) (len when reach mult : List ℕ) (i : ℕ) where
+module _ (ring : Ring) (k : ℕ) (plan : Plan) (seen : Seen) (memory₀ : Memory) (len₀ : List ℕ) (memory : Memory) (len : List ℕ) (i : ℕ) where
   abbrev Here : ℕ → List ℕ → ℕ → ℕ → ℕ → ℕ → Type 0
-  Here = Memory ring k saved len₀ next us ts old₀ when₀ reach₀ mult₀
+  Here = Remembers ring k plan seen memory₀ len₀
 
   -- a row that keeps its length is left as it is
-  pub settle_skip : Settling ring k saved next us ts old₀ len₀ when₀ reach₀ mult₀ old len when reach mult i
-      → at next i ≤ at len i → at len i ≤ at next i → Settling ring k saved next us ts old₀ len₀ when₀ reach₀ mult₀ old len when reach mult (i + 1)
+  pub settle_skip : Settling ring k plan seen memory₀ len₀ memory len i → at plan.length i ≤ at len i → at len i ≤ at plan.length i
+      → Settling ring k plan seen memory₀ len₀ memory len (i + 1)
   settle_skip s h up =
       record {
         shape = s.shape;
@@ -107,52 +126,53 @@ module _ (ring : Ring) (k : ℕ) (saved : List (List ℕ)) (next us ts : List �
         long_when = s.long_when;
         long_reach = s.long_reach;
         long_mult = s.long_mult;
-        done = each_skip (λ η. Here η (get_or old η []) (at len η) (at when η) (at reach η) (at mult η)) i s.done this;
-        todo_old = λ η l. s.todo_old η (omega arith);
+        done = each_skip (λ η. Here η (get_or memory.a η []) (at len η) (at memory.when η) (at memory.reach η) (at memory.mult η)) i s.done this;
+        todo_row = λ η l. s.todo_row η (omega arith);
         todo_len = λ η l. s.todo_len η (omega arith);
         todo_when = λ η l. s.todo_when η (omega arith);
         todo_reach = λ η l. s.todo_reach η (omega arith);
         todo_mult = λ η l. s.todo_mult η (omega arith);
       }
     where
-      none : at len₀ i < at next i → ⊥
+      none : at len₀ i < at plan.length i → ⊥
       none l = omega (arith, s.todo_len i (le_refl i))
 
-      this : Here i (get_or old i []) (at len i) (at when i) (at reach i) (at mult i)
+      this : Here i (get_or memory.a i []) (at len i) (at memory.when i) (at memory.reach i) (at memory.mult i)
       this =
           record {
             new = record { grown = omega arith; row_new = λ l. absurd (none l); when_new = λ l. absurd (none l); reach_new = λ l. absurd (none l); mult_new = λ l. absurd (none l) };
-            row_old = λ l. s.todo_old i (le_refl i);
+            row_old = λ l. s.todo_row i (le_refl i);
             when_old = λ l. s.todo_when i (le_refl i);
             reach_old = λ l. s.todo_reach i (le_refl i);
             mult_old = λ l. s.todo_mult i (le_refl i);
           }
 
   -- a row that grew remembers anew
-  pub settle_next : (m : ℕ) → Settling ring k saved next us ts old₀ len₀ when₀ reach₀ mult₀ old len when reach mult i → i < max_rows → Shape saved
-      → at len i < at next i
-      → m ≡ inverse ring.q (at ts (ring.e - 1 - at us i)) * ring.p ^ (ring.e - 1 - i - at us (ring.e - 1 - at us i)) % ring.q
-      → Settling ring k saved next us ts old₀ len₀ when₀ reach₀ mult₀
-      (set old i (get_or saved i [])) (set len i (at next i)) (set when i k) (set reach i (k + 1 - at next i)) (set mult i m) (i + 1)
-  settle_next m s small shape h value =
+  pub settle_next : (m : ℕ) → Settling ring k plan seen memory₀ len₀ memory len i → i < max_rows → length (get_or plan.aside i []) ≡ max_cells
+      → at len i < at plan.length i
+      → m ≡ inverse ring.q (at seen.theta (ring.e - 1 - at seen.u i)) * ring.p ^ (ring.e - 1 - i - at seen.u (ring.e - 1 - at seen.u i)) % ring.q
+      → Settling ring k plan seen memory₀ len₀
+      (record { a = set memory.a i (get_or plan.aside i []); when = set memory.when i k; reach = set memory.reach i (k + 1 - at plan.length i); mult = set memory.mult i m })
+      (set len i (at plan.length i)) (i + 1)
+  settle_next m s small wide h value =
       record {
-        shape = shape_set old i (get_or saved i []) s.shape (shape.wide i small);
-        long_len = length-set len i (at next i) ∙ s.long_len;
-        long_when = length-set when i k ∙ s.long_when;
-        long_reach = length-set reach i (k + 1 - at next i) ∙ s.long_reach;
-        long_mult = length-set mult i m ∙ s.long_mult;
+        shape = shape_set memory.a i (get_or plan.aside i []) s.shape wide;
+        long_len = length-set len i (at plan.length i) ∙ s.long_len;
+        long_when = length-set memory.when i k ∙ s.long_when;
+        long_reach = length-set memory.reach i (k + 1 - at plan.length i) ∙ s.long_reach;
+        long_mult = length-set memory.mult i m ∙ s.long_mult;
         done = λ η l. go η (ℕ_discrete η i) l;
-        todo_old = rest_next [] old old₀ i (get_or saved i []) s.todo_old;
-        todo_len = rest_next zero len len₀ i (at next i) s.todo_len;
-        todo_when = rest_next zero when when₀ i k s.todo_when;
-        todo_reach = rest_next zero reach reach₀ i (k + 1 - at next i) s.todo_reach;
-        todo_mult = rest_next zero mult mult₀ i m s.todo_mult;
+        todo_row = rest_next [] memory.a memory₀.a i (get_or plan.aside i []) s.todo_row;
+        todo_len = rest_next zero len len₀ i (at plan.length i) s.todo_len;
+        todo_when = rest_next zero memory.when memory₀.when i k s.todo_when;
+        todo_reach = rest_next zero memory.reach memory₀.reach i (k + 1 - at plan.length i) s.todo_reach;
+        todo_mult = rest_next zero memory.mult memory₀.mult i m s.todo_mult;
       }
     where
-      none : at next i ≤ at len₀ i → ⊥
+      none : at plan.length i ≤ at len₀ i → ⊥
       none l = omega (arith, s.todo_len i (le_refl i))
 
-      this : Here i (get_or saved i []) (at next i) k (k + 1 - at next i) m
+      this : Here i (get_or plan.aside i []) (at plan.length i) k (k + 1 - at plan.length i) m
       this =
           record {
             new = record { grown = refl; row_new = λ l. refl; when_new = λ l. refl; reach_new = λ l. refl; mult_new = λ l. value };
@@ -163,12 +183,21 @@ module _ (ring : Ring) (k : ℕ) (saved : List (List ℕ)) (next us ts : List �
           }
 
       go : (η : ℕ) → Dec (η ≡ i) → η < i + 1
-          → Here η (get_or (set old i (get_or saved i [])) η []) (at (set len i (at next i)) η) (at (set when i k) η) (at (set reach i (k + 1 - at next i)) η) (at (set mult i m) η)
+          → Here η (get_or (set memory.a i (get_or plan.aside i [])) η []) (at (set len i (at plan.length i)) η) (at (set memory.when i k) η)
+          (at (set memory.reach i (k + 1 - at plan.length i)) η) (at (set memory.mult i m) η)
       go η (yes x) l =
-          subst (λ (j : ℕ). Here j (get_or (set old i (get_or saved i [])) j []) (at (set len i (at next i)) j) (at (set when i k) j) (at (set reach i (k + 1 - at next i)) j) (at (set mult i m) j)) (sym x)
-          (rw (get_or-set_same old i (get_or saved i []) [] (omega (arith, s.shape.many)), get_or-set_same len i (at next i) zero (omega (arith, s.long_len)), get_or-set_same when i k zero (omega (arith, s.long_when)), get_or-set_same reach i (k + 1 - at next i) zero (omega (arith, s.long_reach)), get_or-set_same mult i m zero (omega (arith, s.long_mult))) this)
+          subst (λ (j : ℕ). Here j (get_or (set memory.a i (get_or plan.aside i [])) j []) (at (set len i (at plan.length i)) j) (at (set memory.when i k) j) (at (set memory.reach i (k + 1 - at plan.length i)) j) (at (set memory.mult i m) j)) (sym x)
+          (rw (get_or-set_same memory.a i (get_or plan.aside i []) [] (omega (arith, s.shape.many)), get_or-set_same len i (at plan.length i) zero (omega (arith, s.long_len)), get_or-set_same memory.when i k zero (omega (arith, s.long_when)), get_or-set_same memory.reach i (k + 1 - at plan.length i) zero (omega (arith, s.long_reach)), get_or-set_same memory.mult i m zero (omega (arith, s.long_mult))) this)
       go η (no f) l =
-          rw (get_or-set_other old i η (get_or saved i []) [] f, get_or-set_other len i η (at next i) zero f, get_or-set_other when i η k zero f, get_or-set_other reach i η (k + 1 - at next i) zero f, get_or-set_other mult i η m zero f) (s.done η (omega arith))
+          rw (get_or-set_other memory.a i η (get_or plan.aside i []) [] f, get_or-set_other len i η (at plan.length i) zero f, get_or-set_other memory.when i η k zero f, get_or-set_other memory.reach i η (k + 1 - at plan.length i) zero f, get_or-set_other memory.mult i η m zero f) (s.done η (omega arith))
+
+-- what is equal may be put for what `settle` was handed
+pub settled_from : {ring : Ring} {k i : ℕ} {plan : Plan} {seen seen' : Seen} {memory₀ memory₁ memory : Memory} {len₀ len₁ len : List ℕ}
+    → seen' ≡ seen → memory₁ ≡ memory₀ → len₁ ≡ len₀ → Settling ring k plan seen' memory₁ len₁ memory len i → Settling ring k plan seen memory₀ len₀ memory len i
+settled_from {ring} {k} {i} {plan} {seen} {seen'} {memory₀} {memory₁} {memory} {len₀} {len₁} {len} hs hm hl s =
+    subst (λ (x : Seen). Settling ring k plan x memory₀ len₀ memory len i) hs
+    (subst (λ (x : Memory). Settling ring k plan seen' x len₀ memory len i) hm
+    (subst (λ (x : List ℕ). Settling ring k plan seen' memory₁ x memory len i) hl s))
 
 -- ---- the rows before any term
 
@@ -212,9 +241,6 @@ zeros_shape =
       wide = λ η h. ap length (get_or-replicate max_rows η (replicate max_cells zero) [] h) ∙ length-replicate max_cells zero;
     }
 
-pub line_long : length (replicate max_rows zero) ≡ max_rows
-line_long = length-replicate max_rows zero
-
-pub state_at : {ring : Ring} {k k' : ℕ} {S : List ℕ} {cur old : List (List ℕ)} {len when reach mult : List ℕ}
-    → k ≡ k' → State ring S k cur old len when reach mult → State ring S k' cur old len when reach mult
-state_at {ring} {k} {k'} {S} {cur} {old} {len} {when} {reach} {mult} h s = subst (λ (x : ℕ). State ring S x cur old len when reach mult) h s
+-- the state before the step after step k
+pub state_at : {ring : Ring} {k k' : ℕ} {S : List ℕ} {machine : Machine} → k ≡ k' → State ring S k machine → State ring S k' machine
+state_at {ring} {k} {k'} {S} {machine} h s = subst (λ (x : ℕ). State ring S x machine) h s

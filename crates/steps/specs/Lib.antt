@@ -1,4 +1,5 @@
 pub mod Sizes
+pub mod Fit
 pub mod Run
 pub mod Log
 pub mod Passes

@@ -5,7 +5,9 @@ use Rattle.lists.specs.Table.{at}
 use Rattle.residue.specs.Factors.{PrimePower}
 use Rattle.recurrence.specs.Steps.{case_of}
 use Rattle.recurrence.specs.Working.{Step, case_number, partner_told}
-use Rattle.steps.specs.declared.Ring.{Ring}
+use Rattle.steps.specs.declared.ring.Ring.{Ring}
+use Rattle.steps.specs.declared.Rows.{Rows}
+use Rattle.steps.specs.declared.Seen.{Seen}
 use Rattle.steps.specs.declared.StepRecord.{StepRecord}
 use Rattle.steps.specs.declared.Told.{Told}
 
@@ -71,8 +73,8 @@ told_of e len u =
     let c = case_of e u (at len g) in
     record { g = partner_told c e g; case = case_number c }
 
--- the record of row i at step k, from the lengths, u and θ of the rows before the step
-unfoldable pub described_of : Ring → List ℕ → List ℕ → List ℕ → ℕ → ℕ → StepRecord
-described_of ring len us ts k i =
-    let x = told_of ring.e len (at us i) in
-    record { power = ring.q; k = k; row = i; length = at len i; u = at us i; theta = at ts i; g = x.g; case = x.case }
+-- the record of row i at step k, from the rows before the step and what is seen of them
+unfoldable pub described_of : Ring → Rows → Seen → ℕ → ℕ → StepRecord
+described_of ring rows seen k i =
+    let x = told_of ring.e rows.length (at seen.u i) in
+    record { power = ring.q; k = k; row = i; length = at rows.length i; u = at seen.u i; theta = at seen.theta i; g = x.g; case = x.case }

@@ -4,16 +4,19 @@
 // which no degree occurs (`length_stays`, `length_kept`, `length_grows`), and b follows from a (`generates` of `register_right`).
 #![tactic(auto)]
 
-ghost use Rattle.std.specs.Prelude.{◌≡◌, [], ℕ, suc, ◌+◌, ◌-◌, ◌*◌, ◌%◌, ◌^◌, ◌≤◌, ◌<◌, length, get_or};
+ghost use Rattle.std.specs.Prelude.{◌≡◌, [], ℕ, List, suc, ◌+◌, ◌*◌, ◌%◌, ◌≤◌, ◌<◌, get_or};
 ghost use Rattle.lists.specs.Table.{at};
-ghost use Rattle.residue.specs.Reduction.{scale_of};
 ghost use Rattle.recurrence.specs.Polynomial.{conv};
 ghost use Rattle.recurrence.specs.Working.{no_step, step_at, steps_at};
 ghost use Rattle.steps.specs.Sizes.{max_terms, max_cells, max_rows, log_words};
 ghost use Rattle.steps.specs.Log.{step_record, packed, unpacked, Narrow, Noted, power_of, told_of, described_of};
-ghost use Rattle.steps.specs.Run.{Below, Setting, Result};
-ghost use Rattle.steps.specs.Passes.{Clear, Added, Shape, Blank, Starting, next_at, Planned, Stocked, Changed, Changing, Grows, Settling};
-ghost use Rattle.steps.specs.State.{Rows, Lens, Looks, State, Spare};
+ghost use Rattle.steps.specs.Run.{Below, Result};
+ghost use Rattle.steps.specs.Passes.{Clear, Added, Shape, Blank, Starting, Ready, next_at, Planned, Stocked, Changed, Changing, Grows, Settling};
+ghost use Rattle.steps.specs.State.{RowsAt, Looks, State};
+
+mod ring;
+
+pub use ring::Ring;
 
 // Places for terms, and for the cells of b.
 pub const TERMS: usize = 128;
@@ -27,17 +30,9 @@ pub const ROWS: usize = 15;
 // Words of a log: one for each row at each step. A modulus below 65,536 has at most 15 rows in all.
 pub const LOG: usize = ROWS * TERMS;
 
-// The ring in which the steps go: p, e, q = p^e, and q's `residue::scale`.
-#[derive(Clone, Copy)]
-pub struct Ring {
-    pub p: u32,
-    pub e: usize,
-    pub q: u32,
-    pub scale: u64,
-}
-
 // One row at one step, in the manner of Table 2: the prime power, k, the row's number and its length before the step, u, theta, g (e where
-// the row stays), and the case: 1 stays, 2 added to b, 3 cancelled by an older row.
+// the row stays), and the case: 1 stays, 2 added to b, 3 cancelled by an older row. The case is a number, since users read a record as
+// eight numbers, and a log holds it as one.
 #[derive(Clone, Copy)]
 pub struct StepRecord {
     pub power: u32,
@@ -50,7 +45,70 @@ pub struct StepRecord {
     pub case: u32,
 }
 
-// What a record tells of a row's partner: g, and the case.
+// The rows before a step: the a of each, and its length. Arrays side by side, here and below, and not an array of rows: a step changes a
+// of one row while it reads what others remember, and hands a row's cells on as they stand.
+#[derive(Drop)]
+pub struct Rows {
+    pub a: [[u32; CELLS]; ROWS],
+    pub length: [usize; ROWS],
+}
+
+// What each row that has grown remembers of an older row: its a, the step, a bound on its length, and the inverse of its theta times
+// p^(u - u'), which is the same for every row that it cancels for.
+#[derive(Drop)]
+struct Memory {
+    a: [[u32; CELLS]; ROWS],
+    when: [usize; ROWS],
+    reach: [usize; ROWS],
+    mult: [u32; ROWS],
+}
+
+// u and theta of each row's discrepancy at a step.
+#[derive(Drop)]
+struct Seen {
+    u: [usize; ROWS],
+    theta: [u32; ROWS],
+}
+
+// The lengths after a step; and of each row that grows the a that it is to remember, put aside.
+#[derive(Drop)]
+struct Plan {
+    length: [usize; ROWS],
+    aside: [[u32; CELLS]; ROWS],
+}
+
+// All that the steps work on. Before a step only `rows` and `memory` count.
+#[derive(Drop)]
+struct Machine {
+    rows: Rows,
+    memory: Memory,
+    seen: Seen,
+    plan: Plan,
+}
+
+// A machine of zeros. A constant, and not what a function gives: that would be copied, which is slower and takes twice the stack.
+const BLANK: Machine = Machine {
+    rows: Rows {
+        a: [[0u32; CELLS]; ROWS],
+        length: [0usize; ROWS],
+    },
+    memory: Memory {
+        a: [[0u32; CELLS]; ROWS],
+        when: [0usize; ROWS],
+        reach: [0usize; ROWS],
+        mult: [0u32; ROWS],
+    },
+    seen: Seen {
+        u: [0usize; ROWS],
+        theta: [0u32; ROWS],
+    },
+    plan: Plan {
+        length: [0usize; ROWS],
+        aside: [[0u32; CELLS]; ROWS],
+    },
+};
+
+// What a record tells of a row's partner: g, and the case by its number, as `StepRecord` has it.
 #[derive(Clone, Copy)]
 struct Told {
     g: usize,
@@ -64,98 +122,186 @@ pub fn coefficient(a: &[u32; CELLS], s: &[u32; TERMS], l: usize, k: usize, q: u3
     ensures { result ≡ conv (at s.now) (at a.now) k % q }
 {
     let mut sum: u64 = 0;
-    let mut i: usize = 0;
-    while i <= l {
-        sum += (a[i] as u64) * (s[k - i] as u64);
-        i += 1;
+    for i in 0..l + 1 {
+        sum += u64::from(a[i]) * u64::from(s[k - i]);
     }
     residue::remainder(sum, q)
 }
 
 // Adds f times the first n places of y, moved up s places, to x, modulo q.
 fn combine(x: &mut [u32; CELLS], y: &[u32; CELLS], f: u32, s: usize, n: usize, ring: Ring)
-    requires { (length x.old ≡ max_cells) × (s + n ≤ max_cells) × (0 < ring.q) × (ring.q < 65536) × (f ≤ ring.q) × Below max_cells ring.q x.old
-        × Below max_cells ring.q y.now × Clear n max_cells y.now × (ring.scale ≡ scale_of ring.q) }
+    requires { (s + n ≤ max_cells) × (f ≤ ring.q) × Below max_cells ring.q x.old × Below max_cells ring.q y.now × Clear n max_cells y.now }
     ensures { Added max_cells ring.q f s x.old y.now x.new }
 {
-    let end = s + n;
-    let mut i: usize = s;
-    while i < end {
-        x[i] = residue::reduce(x[i] + f * y[i - s], ring.q, ring.scale);
-        i += 1;
+    for i in 0..n {
+        x[s + i] = residue::reduce(x[s + i] + f * y[i], ring.q, ring.scale);
     }
 }
 
-// u and theta of each row's discrepancy at step k.
-fn look(
-    cur: &[[u32; CELLS]; ROWS],
-    len: &[usize; ROWS],
-    s: &[u32; TERMS],
-    k: usize,
-    ring: Ring,
-    us: &mut [usize; ROWS],
-    ts: &mut [u32; ROWS],
-)
-    requires { Setting ring s.now × (k < max_terms) × Rows ring s.now k cur.now × Lens ring s.now k len.now × (length us.old ≡ max_rows)
-        × (length ts.old ≡ max_rows) }
-    ensures { Looks ring s.now k us.new ts.new × (length us.new ≡ max_rows)
-        × (length ts.new ≡ max_rows) }
+// The rows before any term: row i has a = p^i.
+fn first_rows(a: &mut [[u32; CELLS]; ROWS], ring: Ring)
+    requires { Shape a.old × Blank a.old }
+    ensures { Starting ring.p a.old a.new ring.e }
 {
-    let mut i: usize = 0;
-    while i < ring.e {
-        let l = len[i];
-        let d = coefficient(&cur[i], s, l, k, ring.q);
-        let w = residue::weigh(d, ring.p, ring.e);
-        us[i] = w.u;
-        ts[i] = w.theta;
-        i += 1;
+    let mut power: u32 = 1;
+    for i in 0..ring.e {
+        a[i][0] = power;
+        power *= ring.p;
     }
 }
 
-// g and the case of a row with this u, from what the step sees.
-fn tell(len: &[usize; ROWS], u: usize, e: usize) -> Told
-    requires { e ≤ max_rows }
-    ensures { result ≡ told_of e len.now u }
-{
-    if u < e {
-        let g = e - 1 - u;
-        if len[g] == 0 {
-            return Told { g: g, case: 2 };
+impl Seen {
+    // u and theta of each row's discrepancy at step k.
+    fn look(&mut self, rows: &Rows, s: &[u32; TERMS], k: usize, ring: Ring)
+        requires { Below max_terms 65536 s.now × (k < max_terms) × RowsAt ring s.now k rows.now }
+        ensures { Looks ring s.now k self.new }
+    {
+        for i in 0..ring.e {
+            let d = coefficient(&rows.a[i], s, rows.length[i], k, ring.q);
+            let w = residue::weigh(d, ring.p, ring.e);
+            self.u[i] = w.u;
+            self.theta[i] = w.theta;
         }
-        return Told { g: g, case: 3 };
     }
-    Told { g: e, case: 1 }
 }
 
-// The record of row i at step k, by value.
-fn describe(
-    len: &[usize; ROWS],
-    us: &[usize; ROWS],
-    ts: &[u32; ROWS],
-    k: usize,
-    i: usize,
-    ring: Ring,
-) -> StepRecord
-    requires { (i < ring.e) × (ring.e ≤ max_rows) × (k < max_terms) × ((j : ℕ) → j < ring.e → at len.now j ≤ k)
-        × ((j : ℕ) → j < ring.e → at us.now j ≤ ring.e) }
-    ensures { result ≡ described_of ring len.now us.now ts.now k i }
-{
-    let l = len[i];
-    let u = us[i];
-    let x = tell(len, u, ring.e);
-    StepRecord {
-        power: ring.q,
-        k: k as u32,
-        row: i as u32,
-        length: l as u32,
-        u: u as u32,
-        theta: ts[i],
-        g: x.g as u32,
-        case: x.case,
+impl Rows {
+    // The rows before step n.
+    pub fn before(s: &[u32; TERMS], n: usize, ring: Ring) -> Rows
+        requires { Below max_terms 65536 s.now × (n ≤ max_terms) }
+        ensures { RowsAt ring s.now n result }
+    {
+        let mut machine = BLANK;
+        machine.start(ring);
+        let mut empty = [0u64; 1];
+        let none = &mut empty[0..0];
+        for k in 0..n {
+            machine.step(s, k, ring, none, 0);
+        }
+        machine.rows
+    }
+
+    // g and the case of a row with this u.
+    #[tactic(auto, using(crate::proofs::Log::told_stays, crate::proofs::Log::told_added, crate::proofs::Log::told_cancelled))]
+    fn tell(&self, u: usize, e: usize) -> Told
+        requires { e ≤ max_rows }
+        ensures { result ≡ told_of e self.now.length u }
+    {
+        if u < e {
+            let g = e - 1 - u;
+            if self.length[g] == 0 {
+                return Told { g: g, case: 2 };
+            }
+            return Told { g: g, case: 3 };
+        }
+        Told { g: e, case: 1 }
+    }
+
+    // The length of row i after step k, by the law of lengths.
+    #[tactic(auto, using(crate::proofs::Passes::next_stay, crate::proofs::Passes::next_flat, crate::proofs::Passes::next_grow))]
+    fn grown(&self, seen: &Seen, i: usize, k: usize, ring: Ring) -> usize
+        requires { (i < ring.e) × (k < max_terms) × Ready ring k self.now seen.now }
+        ensures { result ≡ next_at self.now.length seen.now.u k ring.e i }
+    {
+        let l = self.length[i];
+        let u = seen.u[i];
+        if u < ring.e {
+            let m = self.length[ring.e - 1 - u];
+            if l + m <= k {
+                return k + 1 - m;
+            }
+        }
+        l
+    }
+
+    // The a of every row after step k.
+    fn change(&mut self, memory: &Memory, seen: &Seen, k: usize, ring: Ring)
+        requires { (k < max_terms) × Ready ring k self.old seen.now × Stocked ring k self.old.length memory.now }
+        ensures { Changing ring k memory.now seen.now self.old self.new ring.e }
+    {
+        for i in 0..ring.e {
+            memory.cancel(
+                &mut self.a[i],
+                &self.length,
+                seen.u[i],
+                seen.theta[i],
+                k,
+                ring,
+            );
+        }
+    }
+}
+
+impl Plan {
+    // The lengths after step k. Of each row that grows, the row that it is to remember is put aside, as it is before the step.
+    #[tactic(auto, using(crate::proofs::Passes::next_rose, crate::proofs::Passes::plan_next))]
+    fn make(&mut self, rows: &Rows, seen: &Seen, k: usize, ring: Ring)
+        requires { (k < max_terms) × Ready ring k rows.now seen.now }
+        ensures { Planned ring k rows.now seen.now self.new ring.e }
+    {
+        for i in 0..ring.e {
+            let n = rows.grown(seen, i, k, ring);
+            self.length[i] = n;
+            if n <= rows.length[i] {
+                continue;
+            }
+            let g = ring.e - 1 - seen.u[i];
+            self.aside[i] = rows.a[g];
+        }
+    }
+}
+
+impl Memory {
+    // The a of one row after step k, from its u and theta and the lengths before it. A row with u = e stays; where row g has length 0 only
+    // b would change; else the row that g remembers cancels the discrepancy.
+    fn cancel(
+        &self,
+        x: &mut [u32; CELLS],
+        length: &[usize; ROWS],
+        u: usize,
+        theta: u32,
+        k: usize,
+        ring: Ring,
+    )
+        requires { (k < max_terms) × Stocked ring k length.now self.now × (theta ≤ ring.q) × Below max_cells ring.q x.old }
+        ensures { Changed ring k length.now self.now u theta x.old x.new }
+    {
+        if ring.e <= u {
+            return;
+        }
+        let g = ring.e - 1 - u;
+        if length[g] == 0 {
+            return;
+        }
+        let f = ring.q - residue::reduce(theta * self.mult[g], ring.q, ring.scale);
+        combine(x, &self.a[g], f, k - self.when[g], self.reach[g] + 1, ring);
+    }
+
+    // The lengths after step k, and what the rows that grew now remember: the row put aside, its step, its length and its multiplier. One
+    // inverse a growth is enough, and theta is a unit.
+    fn settle(&mut self, length: &mut [usize; ROWS], plan: &Plan, seen: &Seen, k: usize, ring: Ring)
+        requires { (k < max_terms) × ((j : ℕ) → j < ring.e → Grows ring k length.old plan.now seen.now j) × Shape self.old.a }
+        ensures { Settling ring k plan.now seen.now self.old length.old self.new length.new ring.e }
+    {
+        for i in 0..ring.e {
+            let n = plan.length[i];
+            if n <= length[i] {
+                continue;
+            }
+            let g = ring.e - 1 - seen.u[i];
+            self.a[i] = plan.aside[i];
+            length[i] = n;
+            self.when[i] = k;
+            self.reach[i] = k + 1 - n;
+            let v = residue::inverse(seen.theta[g], ring.q);
+            let w = residue::power(ring.p, ring.e - 1 - i - seen.u[g]);
+            self.mult[i] = residue::mul(v, w, ring.q);
+        }
     }
 }
 
 // A record as one number of 61 bits, and back: a log is an array of numbers.
+#[tactic(auto, unfolding(crate::specs::Log::packed))]
 fn pack(x: StepRecord) -> u64
     requires { Narrow x }
     ensures { result ≡ packed x }
@@ -165,6 +311,7 @@ fn pack(x: StepRecord) -> u64
     ((middle * 65536 + (x.theta as u64)) * 16 + (x.g as u64)) * 4 + (x.case as u64)
 }
 
+#[tactic(auto, unfolding(crate::specs::Log::unpacked))]
 fn unpack(w: u64) -> StepRecord
     ensures { result ≡ unpacked w }
 {
@@ -194,264 +341,78 @@ pub fn entry(log: &[u64; LOG], i: usize) -> StepRecord
     unpack(log[i])
 }
 
-// The records of all rows at step k, behind those of the steps before it, which begin at a place of the log; as far as the log has places.
-// One that has none asks for nothing, and is told first: then nothing else is computed.
-fn note(
-    len: &[usize; ROWS],
-    us: &[usize; ROWS],
-    ts: &[u32; ROWS],
-    k: usize,
-    ring: Ring,
-    log: &mut [u64],
-    first: usize,
-)
-    requires { (first + (k * ring.e + ring.e) ≤ log_words) × (ring.e ≤ max_rows) × (k < max_terms) × (ring.q < 65536)
-        × ((j : ℕ) → j < ring.e → at len.now j ≤ k) × ((j : ℕ) → j < ring.e → at us.now j ≤ ring.e)
-        × ((j : ℕ) → j < ring.e → at ts.now j ≤ ring.q) }
-    ensures { Noted (first + k * ring.e) ring.e
-        (λ (i : ℕ). packed (described_of ring len.now us.now ts.now k i)) log.old log.new }
-{
-    if log.len() == 0 {
-        return;
+impl Machine {
+    // The machine before any term. No row has grown, so that none remembers anything.
+    fn start(&mut self, ring: Ring)
+        requires { self.old ≡ BLANK }
+        ensures { (terms : List ℕ) → State ring terms 0 self.new }
+    {
+        first_rows(&mut self.rows.a, ring);
     }
-    let place = first + k * ring.e;
-    let mut i: usize = 0;
-    while i < ring.e {
-        if log.len() <= place + i {
+
+    // The record of row i at step k, by value.
+    fn describe(&self, k: usize, i: usize, ring: Ring) -> StepRecord
+        requires { (i < ring.e) × (k < max_terms) × Ready ring k self.now.rows self.now.seen }
+        ensures { result ≡ described_of ring self.now.rows self.now.seen k i }
+    {
+        let u = self.seen.u[i];
+        let x = self.rows.tell(u, ring.e);
+        StepRecord {
+            power: ring.q,
+            k: k as u32,
+            row: i as u32,
+            length: self.rows.length[i] as u32,
+            u: u as u32,
+            theta: self.seen.theta[i],
+            g: x.g as u32,
+            case: x.case,
+        }
+    }
+
+    // The records of all rows at step k, behind those of the steps before it, which begin at a place of the log; as far as the log has
+    // places. One that has none asks for nothing, and is told first: then nothing else is computed.
+    #[tactic(auto, using(crate::proofs::Log::narrow_described))]
+    fn note(&self, k: usize, ring: Ring, log: &mut [u64], first: usize)
+        requires { (first + (k * ring.e + ring.e) ≤ log_words) × (k < max_terms) × Ready ring k self.now.rows self.now.seen }
+        ensures { Noted (first + k * ring.e) ring.e (λ (i : ℕ). packed (described_of ring self.now.rows self.now.seen k i)) log.old log.new }
+    {
+        if log.len() == 0 {
             return;
         }
-        let x = describe(len, us, ts, k, i, ring);
-        log[place + i] = pack(x);
-        i += 1;
-    }
-}
-
-// The length of row i after step k, by the law of lengths.
-fn grown(len: &[usize; ROWS], us: &[usize; ROWS], i: usize, k: usize, e: usize) -> usize
-    requires { (i < e) × (k < max_terms) × (e ≤ max_rows) × ((j : ℕ) → j < e → at len.now j ≤ k) }
-    ensures { result ≡ next_at len.now us.now k e i }
-{
-    let l = len[i];
-    let u = us[i];
-    if u < e {
-        let m = len[e - 1 - u];
-        if l + m <= k {
-            return k + 1 - m;
+        let place = first + k * ring.e;
+        for i in 0..ring.e {
+            if log.len() <= place + i {
+                return;
+            }
+            let x = self.describe(k, i, ring);
+            log[place + i] = pack(x);
         }
     }
-    l
-}
 
-// The lengths after step k. Of each row that grows, the row that it is to remember is put aside, as it is before the step.
-fn plan(
-    cur: &[[u32; CELLS]; ROWS],
-    len: &[usize; ROWS],
-    us: &[usize; ROWS],
-    k: usize,
-    e: usize,
-    next: &mut [usize; ROWS],
-    saved: &mut [[u32; CELLS]; ROWS],
-)
-    requires { (k < max_terms) × (e ≤ max_rows) × ((j : ℕ) → j < e → at len.now j ≤ k) × Shape cur.now × (length next.old ≡ max_rows)
-        × Shape saved.old }
-    ensures { Planned k e len.now us.now cur.now next.new saved.new e }
-{
-    let mut i: usize = 0;
-    while i < e {
-        let n = grown(len, us, i, k, e);
-        next[i] = n;
-        if n <= len[i] {
-            i += 1;
-            continue;
-        }
-        let g = e - 1 - us[i];
-        saved[i] = cur[g];
-        i += 1;
+    // The plan and the rows after step k. `make` reads the rows before any of them changes; `change` reads nothing of other rows but what
+    // they remember.
+    fn advance(&mut self, k: usize, ring: Ring)
+        requires { (k < max_terms) × Ready ring k self.old.rows self.old.seen × Stocked ring k self.old.rows.length self.old.memory }
+        ensures { Planned ring k self.old.rows self.old.seen self.new.plan ring.e
+            × Changing ring k self.old.memory self.old.seen self.old.rows self.new.rows ring.e
+            × (self.new.memory ≡ self.old.memory) × (self.new.seen ≡ self.old.seen) }
+    {
+        self.plan.make(&self.rows, &self.seen, k, ring);
+        self.rows.change(&self.memory, &self.seen, k, ring);
     }
-}
 
-// The a of one row after step k. A row with u = e stays; where row g has length 0 only b would change; else the row that g remembers
-// cancels the discrepancy. `mult` has the inverse of its theta times p^(u - u'), which is the same for every row that asks g.
-fn change(
-    x: &mut [u32; CELLS],
-    old: &[[u32; CELLS]; ROWS],
-    len: &[usize; ROWS],
-    when: &[usize; ROWS],
-    reach: &[usize; ROWS],
-    mult: &[u32; ROWS],
-    u: usize,
-    t: u32,
-    k: usize,
-    ring: Ring,
-)
-    requires { (k < max_terms) × (ring.e ≤ max_rows) × (ring.q < 65536) × (0 < ring.q)
-        × Stocked ring k old.now len.now when.now reach.now mult.now × (t ≤ ring.q) × (length x.old ≡ max_cells)
-        × Below max_cells ring.q x.old × (ring.scale ≡ scale_of ring.q) }
-    ensures { Changed ring k old.now len.now when.now mult.now u t x.old
-        x.new }
-{
-    if ring.e <= u {
-        return;
-    }
-    let g = ring.e - 1 - u;
-    if len[g] == 0 {
-        return;
-    }
-    let f = ring.q - residue::reduce(t * mult[g], ring.q, ring.scale);
-    combine(x, &old[g], f, k - when[g], reach[g] + 1, ring);
-}
-
-// The a of every row after step k.
-fn change_all(
-    cur: &mut [[u32; CELLS]; ROWS],
-    old: &[[u32; CELLS]; ROWS],
-    len: &[usize; ROWS],
-    when: &[usize; ROWS],
-    reach: &[usize; ROWS],
-    mult: &[u32; ROWS],
-    us: &[usize; ROWS],
-    ts: &[u32; ROWS],
-    k: usize,
-    ring: Ring,
-)
-    requires { (k < max_terms) × (ring.e ≤ max_rows) × (ring.q < 65536) × (0 < ring.q)
-        × Stocked ring k old.now len.now when.now reach.now mult.now × ((j : ℕ) → j < ring.e → at ts.now j ≤ ring.q)
-        × Shape cur.old × ((j : ℕ) → j < ring.e → Below max_cells ring.q (get_or cur.old j [])) × (ring.scale ≡ scale_of ring.q) }
-    ensures { Changing ring k old.now len.now when.now mult.now us.now
-        ts.now cur.old cur.new ring.e }
-{
-    let mut i: usize = 0;
-    while i < ring.e {
-        change(
-            &mut cur[i],
-            old,
-            len,
-            when,
-            reach,
-            mult,
-            us[i],
-            ts[i],
-            k,
-            ring,
-        );
-        i += 1;
-    }
-}
-
-// The lengths and the rows after step k. `plan` reads the rows before any of them changes; `change_all` reads nothing of other rows but
-// what they remember.
-fn advance(
-    cur: &mut [[u32; CELLS]; ROWS],
-    old: &[[u32; CELLS]; ROWS],
-    len: &[usize; ROWS],
-    when: &[usize; ROWS],
-    reach: &[usize; ROWS],
-    mult: &[u32; ROWS],
-    next: &mut [usize; ROWS],
-    saved: &mut [[u32; CELLS]; ROWS],
-    us: &[usize; ROWS],
-    ts: &[u32; ROWS],
-    k: usize,
-    ring: Ring,
-)
-    requires { (k < max_terms) × (ring.e ≤ max_rows) × (ring.q < 65536) × (0 < ring.q)
-        × Stocked ring k old.now len.now when.now reach.now mult.now × ((j : ℕ) → j < ring.e → at ts.now j ≤ ring.q)
-        × Shape cur.old × ((j : ℕ) → j < ring.e → Below max_cells ring.q (get_or cur.old j [])) × (ring.scale ≡ scale_of ring.q)
-        × ((j : ℕ) → j < ring.e → at len.now j ≤ k) × (length next.old ≡ max_rows) × Shape saved.old }
-    ensures { Planned k ring.e len.now us.now cur.old next.new saved.new ring.e
-        × Changing ring k old.now len.now when.now mult.now us.now
-        ts.now cur.old cur.new ring.e }
-{
-    plan(cur, len, us, k, ring.e, next, saved);
-    change_all(cur, old, len, when, reach, mult, us, ts, k, ring);
-}
-
-// The lengths after step k, and what the rows that grew now remember: the row put aside, its step, its length and its multiplier. One
-// inverse a growth is enough, and theta is a unit.
-fn settle(
-    old: &mut [[u32; CELLS]; ROWS],
-    len: &mut [usize; ROWS],
-    when: &mut [usize; ROWS],
-    reach: &mut [usize; ROWS],
-    mult: &mut [u32; ROWS],
-    next: &[usize; ROWS],
-    saved: &[[u32; CELLS]; ROWS],
-    us: &[usize; ROWS],
-    ts: &[u32; ROWS],
-    k: usize,
-    ring: Ring,
-)
-    requires { (k < max_terms) × (ring.e ≤ max_rows) × (ring.q < 65536) × (0 < ring.q) × (0 < ring.p) × (ring.p ^ ring.e < 65536)
-        × ((j : ℕ) → j < ring.e → Grows ring k len.old next.now us.now ts.now j) × Shape old.old × Shape saved.now
-        × (length len.old ≡ max_rows) × (length when.old ≡ max_rows) × (length reach.old ≡ max_rows) × (length mult.old ≡ max_rows) }
-    ensures { Settling ring k saved.now next.now us.now ts.now old.old
-        len.old when.old reach.old mult.old old.new len.new
-        when.new reach.new mult.new ring.e }
-{
-    let mut i: usize = 0;
-    while i < ring.e {
-        let n = next[i];
-        if n <= len[i] {
-            i += 1;
-            continue;
-        }
-        let g = ring.e - 1 - us[i];
-        old[i] = saved[i];
-        len[i] = n;
-        when[i] = k;
-        reach[i] = k + 1 - n;
-        let v = residue::inverse(ts[g], ring.q);
-        let w = residue::power(ring.p, ring.e - 1 - i - us[g]);
-        mult[i] = residue::mul(v, w, ring.q);
-        i += 1;
-    }
-}
-
-// Step k, with its records. Every row after the step is made from the rows before it: `look` and `note` only read them, `advance` changes
-// them when all that is read of them is put aside, and `settle` renews what they remember last.
-fn step(
-    cur: &mut [[u32; CELLS]; ROWS],
-    old: &mut [[u32; CELLS]; ROWS],
-    len: &mut [usize; ROWS],
-    when: &mut [usize; ROWS],
-    reach: &mut [usize; ROWS],
-    mult: &mut [u32; ROWS],
-    next: &mut [usize; ROWS],
-    saved: &mut [[u32; CELLS]; ROWS],
-    us: &mut [usize; ROWS],
-    ts: &mut [u32; ROWS],
-    s: &[u32; TERMS],
-    k: usize,
-    ring: Ring,
-    log: &mut [u64],
-    first: usize,
-)
-    requires { Setting ring s.now × (k < max_terms) × State ring s.now k cur.old old.old len.old when.old reach.old mult.old
-        × Spare next.old saved.old us.old ts.old × (first + (k * ring.e + ring.e) ≤ log_words) }
-    ensures { State ring s.now (suc k) cur.new old.new len.new when.new
-        reach.new mult.new
-        × Spare next.new saved.new us.new ts.new
-        × Noted (first + k * ring.e) ring.e (λ (i : ℕ). packed (step_record (step_at s.now (power_of ring) k i))) log.old log.new }
-{
-    look(cur, len, s, k, ring, us, ts);
-    note(len, us, ts, k, ring, log, first);
-    advance(
-        cur, old, len, when, reach, mult, next, saved, us, ts, k, ring,
-    );
-    settle(old, len, when, reach, mult, next, saved, us, ts, k, ring);
-}
-
-// The rows before any term: row i has a = p^i.
-fn start(cur: &mut [[u32; CELLS]; ROWS], p: u32, e: usize)
-    requires { (0 < p) × (p ^ e < 65536) × (e ≤ max_rows) × Shape cur.old × Blank cur.old }
-    ensures { Starting p cur.old cur.new e }
-{
-    let mut r: u32 = 1;
-    let mut i: usize = 0;
-    while i < e {
-        cur[i][0] = r;
-        r = r * p;
-        i += 1;
+    // Step k, with its records. Every row after the step is made from the rows before it: `look` and `note` only read them, `advance`
+    // changes them when all that is read of them is put aside, and `settle` renews what they remember last.
+    fn step(&mut self, s: &[u32; TERMS], k: usize, ring: Ring, log: &mut [u64], first: usize)
+        requires { Below max_terms 65536 s.now × (k < max_terms) × State ring s.now k self.old × (first + (k * ring.e + ring.e) ≤ log_words) }
+        ensures { State ring s.now (suc k) self.new
+            × Noted (first + k * ring.e) ring.e (λ (i : ℕ). packed (step_record (step_at s.now (power_of ring) k i))) log.old log.new }
+    {
+        self.seen.look(&self.rows, s, k, ring);
+        self.note(k, ring, log, first);
+        self.advance(k, ring);
+        self.memory
+            .settle(&mut self.rows.length, &self.plan, &self.seen, k, ring);
     }
 }
 
@@ -466,66 +427,17 @@ pub fn run(
     log: &mut [u64],
     first: usize,
 )
-    requires { Setting ring s.now × (n ≤ max_terms) × (first + n * ring.e ≤ log_words) }
-    ensures { Result ring s.now n a.new lens.new
+    requires { Below max_terms 65536 s.now × (n ≤ max_terms) × (first + n * ring.e ≤ log_words) }
+    ensures { Result (power_of ring) s.now n a.new lens.new
         × Noted first (n * ring.e) (λ (i : ℕ). packed (step_record (get_or (steps_at s.now (power_of ring) n) i no_step)))
         log.old log.new }
 {
-    let mut cur = [[0u32; CELLS]; ROWS];
-    let mut old = [[0u32; CELLS]; ROWS];
-    let mut saved = [[0u32; CELLS]; ROWS];
-    let mut len = [0usize; ROWS];
-    let mut next = [0usize; ROWS];
-    let mut when = [0usize; ROWS];
-    let mut reach = [0usize; ROWS];
-    let mut mult = [0u32; ROWS];
-    let mut us = [0usize; ROWS];
-    let mut ts = [0u32; ROWS];
-    start(&mut cur, ring.p, ring.e);
+    let mut machine = BLANK;
+    machine.start(ring);
     *lens = [0u32; CELLS];
-    let mut k: usize = 0;
-    while k < n {
-        step(
-            &mut cur, &mut old, &mut len, &mut when, &mut reach, &mut mult, &mut next, &mut saved,
-            &mut us, &mut ts, s, k, ring, log, first,
-        );
-        k += 1;
-        let l = len[0];
-        lens[k] = l as u32;
+    for k in 0..n {
+        machine.step(s, k, ring, log, first);
+        lens[k + 1] = machine.rows.length[0] as u32;
     }
-    *a = cur[0];
-}
-
-// The rows before step n, as the step sees them: a of each row, and its length.
-pub fn rows(
-    s: &[u32; TERMS],
-    n: usize,
-    ring: Ring,
-    cur: &mut [[u32; CELLS]; ROWS],
-    len: &mut [usize; ROWS],
-)
-    requires { Setting ring s.now × (n ≤ max_terms) }
-    ensures { Rows ring s.now n cur.new × Lens ring s.now n len.new }
-{
-    let mut old = [[0u32; CELLS]; ROWS];
-    let mut saved = [[0u32; CELLS]; ROWS];
-    let mut next = [0usize; ROWS];
-    let mut when = [0usize; ROWS];
-    let mut reach = [0usize; ROWS];
-    let mut mult = [0u32; ROWS];
-    let mut us = [0usize; ROWS];
-    let mut ts = [0u32; ROWS];
-    let mut empty = [0u64; 1];
-    *cur = [[0u32; CELLS]; ROWS];
-    *len = [0usize; ROWS];
-    start(cur, ring.p, ring.e);
-    let none = &mut empty[0..0];
-    let mut k: usize = 0;
-    while k < n {
-        step(
-            cur, &mut old, len, &mut when, &mut reach, &mut mult, &mut next, &mut saved, &mut us,
-            &mut ts, s, k, ring, none, 0,
-        );
-        k += 1;
-    }
+    *a = machine.rows.a[0];
 }

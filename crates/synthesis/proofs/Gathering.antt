@@ -5,7 +5,7 @@ use mathlib.Core.Logic.{◌⊎◌, inl, inr, ◌≢◌}
 use mathlib.Core.Bool.{Bool, true, false}
 use mathlib.Core.List.{List, [], ◌∷◌}
 use Prim.Native.Nat.{ℕ, zero, ◌*◌, ◌/◌, ◌%◌, ◌^◌, ◌≤◌, ◌<◌}
-use native.Mathlib.Nat.{le_refl, le_antisymm, mul-mod_left, mul-mod_right, mod-lt, mul-le-mul_left, mul-le-mul_right, mul-one, pow-le-pow_left, pow-le-pow_right}
+use native.Mathlib.Nat.{le_refl, le_antisymm, mul-mod_left, mul-mod_right, mod-lt, mul-le-mul_left, mul-le-mul_right, mul-one}
 use native.Mathlib.Decide.{dec_le, dec_lt}
 use native.Mathlib.Omega.{arith}
 use lib.ListN.{length}
@@ -16,7 +16,6 @@ use Rattle.lists.proofs.Table.{is_tabulate, at_tabulate}
 use Rattle.residue.specs.Congruence.{Cong}
 use Rattle.residue.specs.Units.{Coprime, Prime}
 use Rattle.residue.specs.Factors.{is_prime, PrimePower, value, least_power, prime_powers}
-use Rattle.residue.specs.Reduction.{scale_of}
 use Rattle.residue.proofs.Congruence.{rfl, of_eq, tr, modulo, same_below, cong_divisor}
 use Rattle.residue.proofs.Units.{invertible_coprime, prime_power_coprime, coprime_left, coprime_right, coprime_product}
 use Rattle.residue.proofs.Factors.{least_prime, least_exponent, least_whole, least_parts, least_value, rest_pos, value_most, divides_trans, test_prime, prime_test, factored, powers_more, powers_none, prime_powers_lem, among_prime}
@@ -24,52 +23,26 @@ use Rattle.recurrence.specs.Polynomial.{len}
 use Rattle.recurrence.specs.Register.{complexity, register}
 use Rattle.recurrence.proofs.Pairs.{conv_cong}
 use Rattle.recurrence.proofs.Register.{Right, complexity_most, complexity_least, is_register_a, register_length, register_right}
-use Rattle.steps.specs.Sizes.{max_cells, max_terms, max_rows}
-use Rattle.steps.specs.declared.Ring.{Ring}
-use Rattle.steps.specs.Run.{Below, Setting, first_row}
+use Rattle.steps.specs.Sizes.{max_cells, max_terms}
+use Rattle.steps.specs.Run.{Below, first_row}
 use Rattle.synthesis.specs.declared.Synthesis.{Synthesis}
 use Rattle.synthesis.specs.Joining.{Extended, Starts}
 use Rattle.synthesis.specs.Synthesis.{length_at, synthesis_of}
 
--- the ring of a prime power
-abbrev pub ring_of : PrimePower → Ring
-ring_of f = record { p = f.prime; e = f.exponent; q = value f; scale = scale_of (value f) }
+-- a prime power by its numbers
+pub is_power : (f : PrimePower) (p e : ℕ) → p ≡ f.prime → e ≡ f.exponent → ◌≡◌ {A = PrimePower} (record { prime = p; exponent = e }) f
+is_power f p e hp he = ap₂ (λ (x y : ℕ). record { prime = x; exponent = y }) hp he
 
-pub is_ring : (f : PrimePower) (p e q scale : ℕ) → p ≡ f.prime → e ≡ f.exponent → q ≡ value f → scale ≡ scale_of q
-    → ◌≡◌ {A = Ring} (record { p = p; e = e; q = q; scale = scale }) (ring_of f)
-is_ring f p e q scale hp he hq hs =
-    ap₂ (λ (x y : ℕ). record { p = x; e = y; q = q; scale = scale }) hp he
-    ∙ ap₂ (λ (x y : ℕ). record { p = f.prime; e = f.exponent; q = x; scale = y }) hq (hs ∙ ap scale_of hq)
-
--- the ring of the least prime power of R is fit for the steps
-module _ {R : ℕ} (big : 1 < R) where
-  few_rows : R < 65536 → (least_power R).exponent ≤ max_rows
-  few_rows small = go (dec_le (least_power R).exponent max_rows)
-    where
-      go : Dec ((least_power R).exponent ≤ max_rows) → (least_power R).exponent ≤ max_rows
-      go (yes h) = h
-      go (no h) =
-          let up : 2 ^ 16 ≤ (least_power R).prime ^ 16 = pow-le-pow_left (least_prime R big).big 16 in
-          let on : (least_power R).prime ^ 16 ≤ value (least_power R) = pow-le-pow_right {n = (least_power R).prime} (omega (arith, (least_prime R big).big)) {i = 16} {j = (least_power R).exponent} (omega arith) in
-          absurd (omega (arith, value_most R big))
-
-  pub ring_fits : {S : List ℕ} → R < 65536 → Below max_terms 65536 S → Setting (ring_of (least_power R)) S
-  ring_fits small terms =
-      record {
-        prime = least_prime R big;
-        pos = least_exponent R big;
-        few = few_rows small;
-        whole = refl;
-        small = omega (arith, value_most R big);
-        scaled = refl;
-        terms = terms;
-      }
+-- the least prime power of R makes a ring
+pub power_fits : {R : ℕ} → 1 < R → R < 65536 → (p e q : ℕ) → p ≡ (least_power R).prime → e ≡ (least_power R).exponent → q ≡ value (least_power R)
+    → Prime p × (zero < e) × (q ≡ p ^ e) × (q < 65536)
+power_fits {R} big small p e q hp he hq = rw (hp, he, hq) (least_prime R big, least_exponent R big, refl, omega (arith, value_most R big))
 
 -- f divides Q, and row 0 there is in a and in the lengths
 pub record Covers (S : List ℕ) (n Q : ℕ) (a lengths : List ℕ) (f : PrimePower) : Type 0 where
   pub divides : Q % value f ≡ zero
-  pub cells : (i : ℕ) → i < max_cells → Cong (value f) (at a i) (at (first_row (ring_of f) S n).a i)
-  pub sizes : (k : ℕ) → k ≤ n → len (first_row (ring_of f) S k) ≤ at lengths k
+  pub cells : (i : ℕ) → i < max_cells → Cong (value f) (at a i) (at (first_row f S n).a i)
+  pub sizes : (k : ℕ) → k ≤ n → len (first_row f S k) ≤ at lengths k
 
 -- a and the lengths are joined for the prime powers of Q, and those of R are left
 pub record Gathered (m : ℕ) (S : List ℕ) (n Q R : ℕ) (a lengths : List ℕ) : Type 0 where
@@ -137,7 +110,7 @@ module _ {m : ℕ} {S : List ℕ} {n Q R : ℕ} {a lengths : List ℕ} (g : Gath
   v_rest d x y =
       prime_power_coprime f.prime f.exponent R' (least_prime R big) (least_exponent R big) (least_parts R big).bare d y x
 
-  module _ {a' lengths' : List ℕ} (x : Extended (ring_of f) S n Q a lengths a' lengths') (wide : 1 < m) where
+  module _ {a' lengths' : List ℕ} (x : Extended f S n Q a lengths a' lengths') (wide : 1 < m) where
     covers_new : Covers S n (Q * v) a' lengths' f
     covers_new =
         record {
@@ -187,13 +160,13 @@ module _ {m : ℕ} {S : List ℕ} {n Q R : ℕ} {a lengths : List ℕ} (g : Gath
         go h (inl k) = late h (among_rest h k)
         go h (inr c) = inr (covers_old h c)
 
-  -- the same for the code's ring and rest
-  pub gathered_next : {a' lengths' : List ℕ} (ring : Ring) (r : ℕ) → ring ≡ ring_of f → r ≡ R' → 1 < m → Extended ring S n Q a lengths a' lengths'
-      → Gathered m S n (Q * ring.q) r a' lengths'
-  gathered_next {a'} {lengths'} ring r same hr wide x =
-      subst (λ (y : Ring). Gathered m S n (Q * y.q) r a' lengths') (sym same)
+  -- the same for the code's prime power, its value and the rest
+  pub gathered_next : {a' lengths' : List ℕ} (h : PrimePower) (w r : ℕ) → h ≡ f → w ≡ v → r ≡ R' → 1 < m → Extended h S n Q a lengths a' lengths'
+      → Gathered m S n (Q * w) r a' lengths'
+  gathered_next {a'} {lengths'} h w r same hw hr wide x =
+      subst (λ (y : ℕ). Gathered m S n (Q * y) r a' lengths') (sym hw)
       (subst (λ (y : ℕ). Gathered m S n (Q * v) y a' lengths') (sym hr)
-      (extended (subst (λ (y : Ring). Extended y S n Q a lengths a' lengths') same x) wide))
+      (extended (subst (λ (y : PrimePower). Extended y S n Q a lengths a' lengths') same x) wide))
 
 -- ---- whether the modulus is prime
 

@@ -2,7 +2,7 @@
 -- Assumes nothing.
 use mathlib.Core.Path.{◌≡◌, sym, ap, ◌∙◌, subst}
 use mathlib.Core.List.{List}
-use Prim.Native.Nat.{ℕ, zero, ◌+◌, ◌*◌, ◌≤◌, ◌<◌, max}
+use Prim.Native.Nat.{ℕ, zero, ◌+◌, ◌*◌, ◌^◌, ◌≤◌, ◌<◌, max}
 use native.Mathlib.Nat.{le_refl, mul-le-mul_left, mod-one, pow-zero}
 use native.Mathlib.Omega.{arith}
 use lib.ListN.{length, set, length-set}
@@ -16,8 +16,9 @@ use Rattle.residue.proofs.Units.{coprime_invertible}
 use Rattle.residue.proofs.Remainders.{glue_left, glue_right, glue_lt, two_joined}
 use Rattle.recurrence.proofs.Theorem.{reduced}
 use Rattle.steps.specs.Sizes.{max_cells, max_terms}
-use Rattle.steps.specs.declared.Ring.{Ring}
-use Rattle.steps.specs.Run.{Below, Setting, Result}
+use Rattle.steps.specs.declared.ring.Ring.{Ring}
+use Rattle.steps.specs.Run.{Below, Result, first_row}
+use Rattle.steps.specs.Log.{power_of}
 use Rattle.synthesis.specs.Joining.{Joint, Glued, Raised, Extended}
 
 -- ---- the join of two numbers
@@ -85,33 +86,34 @@ module _ (xs₀ ys xs : List ℕ) (i : ℕ) (g : Raising xs₀ ys xs i) where
 
 -- ---- the steps at one more prime power
 
-module _ (ring : Ring) (S : List ℕ) (st : Setting ring S) (n : ℕ) (few : n ≤ max_terms) (row lens : List ℕ) (r : Result ring S n row lens) where
+module _ (ring : Ring) (S : List ℕ) (n : ℕ) (few : n ≤ max_terms) (row lens : List ℕ) (r : Result (power_of ring) S n row lens) where
   pub ring_big : 1 < ring.q
-  ring_big = omega (arith, st.whole, pow_lt ring.p ring.e st.prime.big st.pos, pow-zero ring.p)
+  ring_big = omega (arith, ring.fit.whole, pow_lt ring.p ring.e ring.fit.prime.big ring.fit.pos, pow-zero ring.p)
 
   pub row_below : Below max_cells ring.q row
-  row_below i h = omega (arith, r.cells_a i h, (reduced ring.p ring.e st.prime st.pos S zero n st.pos).0 i, st.whole)
+  row_below i h = omega (arith, r.cells_a i h, (reduced ring.p ring.e ring.fit.prime ring.fit.pos S zero n ring.fit.pos).0 i, ring.fit.whole)
 
   pub extended_is : (big : ℕ) (a lengths a' lengths' : List ℕ) → Glued big ring.q a row a' → Raised lengths lens lengths'
-      → Extended ring S n big a lengths a' lengths'
+      → Extended (power_of ring) S n big a lengths a' lengths'
   extended_is big a lengths a' lengths' g u =
       record {
         long_a = g.long;
         long_lengths = u.long;
-        cells = λ i h. subst (λ (y : ℕ). Joint big ring.q (at a i) y (at a' i)) (r.cells_a i h) (g.cells i h);
+        cells = λ i h. subst (λ (x : ℕ). Joint big x (at a i) (at (first_row (power_of ring) S n).a i) (at a' i)) ring.fit.whole
+            (subst (λ (y : ℕ). Joint big ring.q (at a i) y (at a' i)) (r.cells_a i h) (g.cells i h));
         sizes = λ k h. u.cells k (omega arith) ∙ ap (max (at lengths k)) (r.sizes k h);
         others = λ k h l. omega (arith, u.cells k l, r.others k h);
       }
 
   -- modulo 1 there is nothing to join
-  pub extended_first : (big : ℕ) (a lengths lengths' : List ℕ) → big ≡ 1 → Raised lengths lens lengths' → Extended ring S n big a lengths row lengths'
+  pub extended_first : (big : ℕ) (a lengths lengths' : List ℕ) → big ≡ 1 → Raised lengths lens lengths' → Extended (power_of ring) S n big a lengths row lengths'
   extended_first big a lengths lengths' one u =
       record {
         long_a = r.long_a;
         long_lengths = u.long;
         cells = λ i h.
             record {
-              below = omega (arith, row_below i h, ap (λ (x : ℕ). x * ring.q) one);
+              below = omega (arith, row_below i h, ring.fit.whole, ap (λ (x : ℕ). x * ring.p ^ ring.e) one);
               left = subst (λ (x : ℕ). Cong x (at row i) (at a i)) (sym one) (record { same = mod-one (at row i) ∙ sym (mod-one (at a i)) });
               right = of_eq (r.cells_a i h);
             };

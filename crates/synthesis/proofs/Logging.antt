@@ -14,10 +14,8 @@ use Rattle.residue.proofs.Factors.{Factored, one, more, factored, rest_pos, rest
 use Rattle.recurrence.specs.Working.{Step, no_step, steps_at, steps_over, sheet_of, rows_over}
 use Rattle.recurrence.proofs.Working.{length_steps_at, length_sheet, rows_low, rows_few, rows_more, rows_none, steps_more}
 use Rattle.steps.specs.Sizes.{max_terms, max_rows, log_words}
-use Rattle.steps.specs.declared.Ring.{Ring}
 use Rattle.steps.specs.Log.{step_record, packed, words, overlaid, Noted}
 use Rattle.steps.proofs.Log.{noted_none, noted_more, word_at, overlaid_is, Read, read_append, read_steps}
-use Rattle.synthesis.proofs.Gathering.{ring_of}
 
 -- ---- the rows
 
@@ -75,7 +73,7 @@ module _ {m : ℕ} {S : List ℕ} {n base R : ℕ} {log₀ log : List ℕ} (g : 
     next_left : drop base (sheet_of m S n) ≡ steps_at S f n ++ steps_over S n (prime_powers R')
     next_left = g.left ∙ steps_more R S n big
 
-    next_word : (i : ℕ) → i < n * f.exponent → word_at (ring_of f) S n i ≡ sheet_word m S n (base + i)
+    next_word : (i : ℕ) → i < n * f.exponent → word_at f S n i ≡ sheet_word m S n (base + i)
     next_word i h =
         ap (λ x. packed (step_record x)) (sym (get_or-append (steps_at S f n) (steps_over S n (prime_powers R')) no_step i (omega (arith, length_steps_at S f n)))
         ∙ ap (λ (xs : List Step). get_or xs i no_step) (sym next_left) ∙ get_or-drop base (sheet_of m S n) i no_step)
@@ -85,17 +83,18 @@ module _ {m : ℕ} {S : List ℕ} {n base R : ℕ} {log₀ log : List ℕ} (g : 
         sym (drop-drop (n * f.exponent) base (sheet_of m S n)) ∙ ap (drop (n * f.exponent)) next_left
         ∙ drop_at (steps_at S f n) (steps_over S n (prime_powers R')) (n * f.exponent) (length_steps_at S f n)
 
-    pub logging_next : {log' : List ℕ} (ring : Ring) (r : ℕ) → ring ≡ ring_of f → r ≡ R' → Noted base (n * ring.e) (word_at ring S n) log log'
-        → Logging m S n (base + n * ring.e) r log₀ log'
-    logging_next {log'} ring r same hr x =
-        subst (λ (y : Ring). Logging m S n (base + n * y.e) r log₀ log') (sym same)
+    -- for the code's prime power, its exponent and the rest
+    pub logging_next : {log' : List ℕ} (h : PrimePower) (e r : ℕ) → h ≡ f → e ≡ f.exponent → r ≡ R' → Noted base (n * h.exponent) (word_at h S n) log log'
+        → Logging m S n (base + n * e) r log₀ log'
+    logging_next {log'} h e r same he hr x =
+        subst (λ (y : ℕ). Logging m S n (base + n * y) r log₀ log') (sym he)
         (subst (λ (y : ℕ). Logging m S n (base + n * f.exponent) y log₀ log') (sym hr)
         (record {
           most = omega (arith, rest_lt R big, g.most);
           whole = omega (arith, g.whole, ap (λ (y : ℕ). n * y) (rows_more R big));
           left = next_rest;
-          noted = noted_more zero base (n * f.exponent) (sheet_word m S n) (word_at (ring_of f) S n) (sheet_word m S n) base (base + n * f.exponent)
-              (omega arith) refl (λ i h. refl) next_word g.noted (subst (λ (y : Ring). Noted base (n * y.e) (word_at y S n) log log') same x);
+          noted = noted_more zero base (n * f.exponent) (sheet_word m S n) (word_at f S n) (sheet_word m S n) base (base + n * f.exponent)
+              (omega arith) refl (λ i h. refl) next_word g.noted (subst (λ (y : PrimePower). Noted base (n * y.exponent) (word_at y S n) log log') same x);
         }))
 
   pub logging_end : R ≤ 1 → log ≡ overlaid (words (sheet_of m S n)) log₀

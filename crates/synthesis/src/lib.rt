@@ -9,7 +9,7 @@ ghost use Rattle.recurrence.specs.Register.{complexity, register};
 ghost use Rattle.recurrence.specs.Working.{no_step, steps_at, sheet_of, rows_over};
 ghost use Rattle.steps.specs.Sizes.{max_terms, max_cells, max_rows, log_words};
 ghost use Rattle.steps.specs.Log.{step_record, packed, words, overlaid, power_of, Noted};
-ghost use Rattle.steps.specs.Run.{Below, Setting};
+ghost use Rattle.steps.specs.Run.{Below};
 ghost use Rattle.synthesis.specs.Joining.{Glued, Raised, Extended, Starts};
 ghost use Rattle.synthesis.specs.Synthesis.{length_at, synthesis_of};
 
@@ -73,9 +73,9 @@ fn extend(
     log: &mut [u64],
     first: usize,
 )
-    requires { Setting ring terms.now × (count ≤ max_terms) × (0 < big) × (big * ring.q < 65536) × Coprime big ring.q
+    requires { Below max_terms 65536 terms.now × (count ≤ max_terms) × (0 < big) × (big * ring.q < 65536) × Coprime big ring.q
         × (length a.old ≡ max_cells) × Below max_cells big a.old × (length lengths.old ≡ max_cells) × (first + count * ring.e ≤ log_words) }
-    ensures { Extended ring terms.now count big a.old lengths.old a.new
+    ensures { Extended (power_of ring) terms.now count big a.old lengths.old a.new
         lengths.new
         × Noted first (count * ring.e) (λ (i : ℕ). packed (step_record (get_or (steps_at terms.now (power_of ring) count) i no_step)))
         log.old log.new }
@@ -115,13 +115,7 @@ fn gather(
     let mut rest = modulus;
     while 1 < rest {
         let f = residue::split(rest);
-        let scale = residue::scale(f.value);
-        let ring = Ring {
-            p: f.prime,
-            e: f.exponent,
-            q: f.value,
-            scale: scale,
-        };
+        let ring = Ring::new(f.prime, f.exponent, f.value);
         extend(ring, big, terms, count, a, lengths, log, first);
         big = big * f.value;
         first += count * f.exponent;

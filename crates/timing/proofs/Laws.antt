@@ -23,7 +23,6 @@ use Rattle.steps.specs.Sizes.{max_terms, max_cells}
 use Rattle.steps.specs.declared.StepRecord.{StepRecord}
 use Rattle.steps.specs.Log.{unpacked}
 use Rattle.steps.specs.Run.{Below, Result}
-use Rattle.synthesis.proofs.Gathering.{ring_of}
 use Rattle.sequence.specs.declared.Sequence.{Sequence}
 use Rattle.sequence.specs.declared.Worked.{Worked}
 use Rattle.sequence.specs.Rules.{outside}
@@ -57,7 +56,7 @@ fit m n S h =
     not_true false e = refl
 
 -- the lists that the steps give
-module _ (m : ℕ) {n : ℕ} {S a lens : List ℕ} (r : Result (ring_of (least_power m)) S n a lens) where
+module _ (m : ℕ) {n : ℕ} {S a lens : List ℕ} (r : Result (least_power m) S n a lens) where
   pub cells_are : a ≡ row_cells m S n
   unfolding row_cells
   cells_are = is_tabulate max_cells _ zero a r.long_a r.cells_a

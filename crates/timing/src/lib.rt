@@ -61,13 +61,7 @@ pub extern "C" fn timing_steps(
 {
     if fits(m, n, s) {
         let f = residue::split(m);
-        let scale = residue::scale(f.value);
-        let ring = Ring {
-            p: f.prime,
-            e: f.exponent,
-            q: f.value,
-            scale: scale,
-        };
+        let ring = Ring::new(f.prime, f.exponent, f.value);
         let mut empty = [0u64; 1];
         steps::run(s, n, ring, a, lens, &mut empty[0..0], 0);
         return true;

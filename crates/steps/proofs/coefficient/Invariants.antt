@@ -1,7 +1,6 @@
 -- `steps::coefficient` meets its contract: the loop adds up the first l + 1 summands, and the others are 0.
 -- Assumes nothing.
 use mathlib.Core.Path.{◌≡◌}
-use Prim.Native.Nat.{suc, ◌≤◌, ◌-◌}
 use Rattle.lists.specs.Table.{at}
 use Rattle.lists.specs.Sum.{sum_to}
 use Rattle.recurrence.proofs.Series.{summand}
@@ -9,8 +8,4 @@ use Rattle.steps.proofs.coefficient.Given as goal
 
 abbrev pub invariant-loop-i : goal.invariant-loop-i
 invariant-loop-i l =
-    (l.i ≤ suc l.l) × (l.sum ≡ sum_to l.i (summand (at l.a) (at l.s) l.k))
-
-abbrev pub decreases-loop-i : goal.decreases-loop-i
-decreases-loop-i l =
-    suc l.l - l.i
+    l.sum ≡ sum_to l.i (summand (at l.a) (at l.s) l.k)

@@ -1,14 +1,12 @@
 -- `synthesis::gather` meets its contract: the prime powers of what is left are split off one by one.
 -- Assumes nothing.
-use mathlib.Core.Path.{◌≡◌, sym, ap, subst}
+use mathlib.Core.Path.{◌≡◌, sym, ap, subst, ◌∙◌}
 use Prim.Native.Nat.{ℕ, ◌<◌, ◌*◌}
 use native.Mathlib.Omega.{arith}
 use Rattle.residue.specs.Units.{Coprime}
 use Rattle.residue.specs.Factors.{least_power}
-use Rattle.residue.proofs.Factors.{least_value, value_most, rest_lt}
-use Rattle.steps.specs.declared.Ring.{Ring}
-use Rattle.steps.specs.Run.{Setting}
-use Rattle.synthesis.proofs.Gathering.{is_ring, gathered_start, rest_most, product_most, value_apart, ring_fits, gathered_next, last_start, last_next, gathered_prime, gathered_other, gathered_a, gathered_lengths}
+use Rattle.residue.proofs.Factors.{rest_lt}
+use Rattle.synthesis.proofs.Gathering.{is_power, power_fits, gathered_start, rest_most, product_most, value_apart, gathered_next, last_start, last_next, gathered_prime, gathered_other, gathered_a, gathered_lengths}
 use Rattle.synthesis.proofs.Logging.{logging_start, logging_fits, logging_next, logging_end}
 use Rattle.synthesis.proofs.gather.Goals as goal
 
@@ -26,30 +24,29 @@ split-f-requires c =
     let big : 1 < l.rest = c.loop-rest-test.true in
     (big, omega (arith, rest_most l.invariant.0 big, c.requires.1))
 
-pub scale-scale-requires : goal.scale-scale-requires
-scale-scale-requires c =
+pub new-ring-requires : goal.new-ring-requires
+new-ring-requires c =
     let l = c.loop-rest in
     let big : 1 < l.rest = c.loop-rest-test.true in
-    let same = c.split-f.ensures.2 in
-    (omega (arith, least_value l.rest big), omega (arith, value_most l.rest big, rest_most l.invariant.0 big, c.requires.1))
+    let s = c.split-f.ensures in
+    power_fits big (omega (arith, rest_most l.invariant.0 big, c.requires.1)) _ _ _ s.0 s.1 s.2
 
 pub extend-requires : goal.extend-requires
 extend-requires c =
     let l = c.loop-rest in
     let g = l.invariant.0 in
     let big : 1 < l.rest = c.loop-rest-test.true in
-    let f = c.split-f.result in
     let s = c.split-f.ensures in
-    let same = is_ring (least_power l.rest) f.prime f.exponent f.value c.scale-scale.result s.0 s.1 s.2 c.scale-scale.ensures in (
-      subst (λ (r : Ring). Setting r c.args.terms.now) (sym same) (ring_fits big (omega (arith, rest_most g big, c.requires.1)) c.requires.3),
+    let r = c.new-ring.ensures in (
+      c.requires.3,
       c.requires.2,
       g.some,
-      omega (arith, product_most g big, c.requires.1, ap (λ (y : ℕ). l.big * y) s.2),
-      subst (Coprime l.big) (sym s.2) (value_apart g big),
+      omega (arith, product_most g big, c.requires.1, ap (λ (y : ℕ). l.big * y) (r.2 ∙ s.2)),
+      subst (Coprime l.big) (sym (r.2 ∙ s.2)) (value_apart g big),
       g.long_a,
       g.below,
       g.long_lengths,
-      omega (arith, logging_fits l.invariant.1 f.exponent big s.1 c.requires.2 (omega (arith, c.requires.1))),
+      omega (arith, logging_fits l.invariant.1 _ big (r.1 ∙ s.1) c.requires.2 (omega (arith, c.requires.1))),
     )
 
 pub overflow_mul-big : goal.overflow_mul-big
@@ -80,10 +77,10 @@ loop-rest-preserved c =
     let big : 1 < l.rest = c.loop-rest-test.true in
     let f = c.split-f.result in
     let s = c.split-f.ensures in
-    let t = c.scale-scale in
-    let same = is_ring (least_power l.rest) f.prime f.exponent f.value t.result s.0 s.1 s.2 t.ensures in
+    let r = c.new-ring.ensures in
+    let same = is_power (least_power l.rest) _ _ (r.0 ∙ s.0) (r.1 ∙ s.1) in
     let x = c.extend.ensures in
-    (gathered_next l.invariant.0 big _ f.rest same s.3 c.requires.0 x.0, logging_next l.invariant.1 big _ f.rest same s.3 x.1, last_next l.invariant.0 big _ _ (omega (arith, s.0)))
+    (gathered_next l.invariant.0 big _ f.value f.rest same s.2 s.3 c.requires.0 x.0, logging_next l.invariant.1 big _ f.exponent f.rest same s.1 s.3 x.1, last_next l.invariant.0 big _ _ (omega (arith, s.0)))
 
 pub shape_of-log-then-last-modulus : goal.shape_of-log-then-last-modulus
 shape_of-log-then-last-modulus c = c.loop-rest.invariant.1.noted.long
