@@ -8,7 +8,7 @@ use std::io::{Read, Write};
 
 // Each answer is written as soon as its line is read, so that a person at a terminal has it before the next line.
 fn answer<R: Read, W: Write>(reader: &mut R, out: &mut W) -> io::Result<()> {
-    printing::header_line(out)?;
+    printing::line(out, &formatting::header_line())?;
     let mut chunk = [0u8; CHUNK];
     let mut line = [0u8; LINE_ROOM];
     let mut source = input::start();
@@ -16,8 +16,8 @@ fn answer<R: Read, W: Write>(reader: &mut R, out: &mut W) -> io::Result<()> {
         let t = input::next_line(reader, source, &mut chunk, &mut line)?;
         source = t.source;
         match t.taken {
-            Taken::Line(n) => printing::typed_line(out, &line[..n])?,
-            Taken::TooLong => printing::refusal_line(out, Refusal::Buffer)?,
+            Taken::Line(n) => printing::line(out, &formatting::typed_line(&line[..n]))?,
+            Taken::TooLong => printing::line(out, &formatting::refusal_line(Refusal::Buffer))?,
             Taken::Ended => break,
         }
     }

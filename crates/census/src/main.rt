@@ -8,7 +8,7 @@ use std::io::{Read, Write};
 
 // Each answer is written as soon as its line is read, so that a person at a terminal has it before the next line.
 fn answer<R: Read, W: Write>(reader: &mut R, out: &mut W) -> io::Result<()> {
-    printing::census_header(out)?;
+    printing::line(out, &formatting::census_header())?;
     let mut chunk = [0u8; CHUNK];
     let mut line = [0u8; LINE_ROOM];
     let mut source = input::start();
@@ -17,11 +17,13 @@ fn answer<R: Read, W: Write>(reader: &mut R, out: &mut W) -> io::Result<()> {
         source = t.source;
         match t.taken {
             Taken::Line(n) => {
-                if !printing::pair_line(out, &line[..n])? {
+                let answered = formatting::pair_line(&line[..n]);
+                printing::line(out, &answered.line)?;
+                if !answered.going {
                     break;
                 }
             }
-            Taken::TooLong => return printing::no_pair_line(out),
+            Taken::TooLong => return printing::line(out, &formatting::no_pair_line()),
             Taken::Ended => break,
         }
     }

@@ -12,12 +12,12 @@ fn next<R: Read, W: Write>(reader: &mut R, out: &mut W) -> io::Result<bool> {
     if n == 0 {
         return Ok(false);
     }
-    printing::query_line(out, &query[..n])?;
+    printing::line(out, &formatting::query_line(&query[..n]))?;
     Ok(true)
 }
 
 fn list<R: Read, W: Write>(reader: &mut R, out: &mut W) -> io::Result<()> {
-    printing::header_line(out)?;
+    printing::line(out, &formatting::header_line())?;
     for _ in 0..u64::MAX {
         if !next(reader, out)? {
             break;

@@ -43,8 +43,8 @@ fn show<W: Write>(out: &mut W, s: Sequence) -> io::Result<()> {
     let mut log = [0u64; LOG];
     let w = sequence::work(s, &mut a, &mut b, LOG, &mut log);
     let reply = w.reply;
-    printing::reported_line(out, s, reply, &a)?;
-    printing::uniqueness_line(out, reply)?;
+    printing::line(out, &formatting::reported_line(s, reply, &a))?;
+    printing::line(out, &formatting::uniqueness_line(reply))?;
     match reply {
         Reported::Refused(_) => Ok(()),
         Reported::Length(_, _) => table(out, &log, w.count),
@@ -54,7 +54,7 @@ fn show<W: Write>(out: &mut W, s: Sequence) -> io::Result<()> {
 fn one<W: Write>(out: &mut W, query: &[u8]) -> io::Result<()> {
     let c = sequence::check(query);
     match c.outcome {
-        Outcome::Refused(r) => printing::refusal_line(out, r),
+        Outcome::Refused(r) => printing::line(out, &formatting::refusal_line(r)),
         Outcome::Done => show(out, c.sequence),
     }
 }
@@ -71,7 +71,7 @@ fn next<R: Read, W: Write>(reader: &mut R, out: &mut W) -> io::Result<bool> {
 }
 
 fn queries<R: Read, W: Write>(reader: &mut R, out: &mut W) -> io::Result<()> {
-    printing::header_line(out)?;
+    printing::line(out, &formatting::header_line())?;
     for _ in 0..u64::MAX {
         if !next(reader, out)? {
             break;
@@ -83,13 +83,13 @@ fn queries<R: Read, W: Write>(reader: &mut R, out: &mut W) -> io::Result<()> {
 fn answer<W: Write>(out: &mut W, line: &[u8]) -> io::Result<()> {
     let mut query = [0u8; QUERY_BYTES];
     match lines::read_line(line, &mut query) {
-        Outcome::Refused(r) => printing::refusal_line(out, r),
+        Outcome::Refused(r) => printing::line(out, &formatting::refusal_line(r)),
         Outcome::Done => one(out, &query),
     }
 }
 
 fn typed_lines<R: Read, W: Write>(reader: &mut R, out: &mut W) -> io::Result<()> {
-    printing::header_line(out)?;
+    printing::line(out, &formatting::header_line())?;
     let mut chunk = [0u8; CHUNK];
     let mut line = [0u8; LINE_ROOM];
     let mut source = input::start();
@@ -98,7 +98,7 @@ fn typed_lines<R: Read, W: Write>(reader: &mut R, out: &mut W) -> io::Result<()>
         source = t.source;
         match t.taken {
             Taken::Line(n) => answer(out, &line[..n])?,
-            Taken::TooLong => printing::refusal_line(out, Refusal::Buffer)?,
+            Taken::TooLong => printing::line(out, &formatting::refusal_line(Refusal::Buffer))?,
             Taken::Ended => break,
         }
     }
