@@ -2,11 +2,13 @@
 // gives is used at once, so that a person at a terminal is answered after each line.
 #![tactic(auto)]
 
-ghost use Rattle.std.specs.Prelude.{◌≡◌, true, false, not, List, [], ◌∷◌, ◌++◌, ℕ, ◌≤◌, ◌<◌, eqb, leb, ltb, length, take, IfOk, OnErr};
+ghost use Rattle.std.specs.Prelude.{◌≡◌, true, false, not, List, [], ◌∷◌, ◌++◌, ℕ, ◌≤◌, ◌<◌, eqb, leb, ltb, length, take, IfOk, OnErr, MatchOption};
 ghost use Rattle.std.specs.Io.KnownBytes.{Consumes, IsAtEnd, Keeps};
 ghost use Rattle.std.specs.Io.{ReadsAtMost};
 ghost use Rattle.lists.specs.Choice.{both};
 ghost use Rattle.input.specs.Marks.{longest, mark_in, length_of, rest_of, piece_of, left_of, is_marked, is_known};
+ghost use Rattle.input.specs.declared.Taken.TheVariants.{Ended};
+ghost use Rattle.input.specs.Each.{Shows, unread, EachLine};
 ghost use Rattle.input.specs.Held.{Holds, taken_of, within, Told, CutOff, StandsIn};
 
 use std::io;
@@ -254,4 +256,61 @@ pub fn read_full<R: Read>(reader: &mut R, buffer: &mut [u8]) -> io::Result<usize
         done += n;
     }
     Ok(done)
+}
+
+// What was typed: a line, or one that is too long.
+pub enum Typed<'a> {
+    Line(&'a [u8]),
+    TooLong,
+}
+
+// What is handed on of a reply; nothing at the end of the input.
+fn typed_of<'a>(taken: Taken, line: &'a [u8]) -> Option<Typed<'a>>
+    requires { within taken (length line.now) }
+    ensures { MatchOption result (taken ≡ Ended) (Shows taken line.now) }
+{
+    match taken {
+        Taken::Line(n) => Some(Typed::Line(&line[..n])),
+        Taken::TooLong => Some(Typed::TooLong),
+        Taken::Ended => None,
+    }
+}
+
+// Hands each line that is typed to the closure as soon as it is read, until the closure says false or the input ends.
+pub fn each_line<R: Read, F: FnMut(Typed<'_>) -> io::Result<bool>>(
+    reader: &mut R,
+    mut answer: F,
+) -> io::Result<()>
+    requires { F.IsAlwaysCallable answer }
+    ensures { (chunk : List ℕ) × EachLine F.step 18446744073709551615 unread chunk answer result }
+{
+    let mut chunk = [0u8; CHUNK];
+    let mut line = [0u8; LINE_ROOM];
+    let mut source = start();
+    for _turn in 0..u64::MAX {
+        let t = next_line(reader, source, &mut chunk, &mut line)?;
+        source = t.source;
+        match typed_of(t.taken, &line) {
+            Some(typed) => {
+                if !answer(typed)? {
+                    return Ok(());
+                }
+            }
+            None => return Ok(()),
+        }
+    }
+    Ok(())
+}
+
+pub fn each_block<R: Read, F: FnMut(&[u8]) -> io::Result<()>>(reader: &mut R, buffer: &mut [u8], mut answer: F) -> io::Result<()>
+    requires { F.IsAlwaysCallable answer }
+{
+    for _turn in 0..u64::MAX {
+        let n = read_full(reader, buffer)?;
+        if n == 0 {
+            break;
+        }
+        answer(&buffer[..n])?;
+    }
+    Ok(())
 }
