@@ -8,7 +8,7 @@ ghost use Rattle.std.specs.Io.{ReadsAtMost};
 ghost use Rattle.lists.specs.Choice.{both};
 ghost use Rattle.input.specs.Marks.{longest, mark_in, length_of, rest_of, piece_of, left_of, is_marked, is_known};
 ghost use Rattle.input.specs.declared.Taken.TheVariants.{Ended};
-ghost use Rattle.input.specs.Each.{Shows, unread, EachLine};
+ghost use Rattle.input.specs.Each.{Shows, unread, EachLine, EachBlock};
 ghost use Rattle.input.specs.Held.{Holds, taken_of, within, Told, CutOff, StandsIn};
 
 use std::io;
@@ -302,13 +302,19 @@ pub fn each_line<R: Read, F: FnMut(Typed<'_>) -> io::Result<bool>>(
     Ok(())
 }
 
-pub fn each_block<R: Read, F: FnMut(&[u8]) -> io::Result<()>>(reader: &mut R, buffer: &mut [u8], mut answer: F) -> io::Result<()>
+// Hands each block that is read to the closure, as many bytes as the buffer has; the last may be shorter.
+pub fn each_block<R: Read, F: FnMut(&[u8]) -> io::Result<()>>(
+    reader: &mut R,
+    buffer: &mut [u8],
+    mut answer: F,
+) -> io::Result<()>
     requires { F.IsAlwaysCallable answer }
+    ensures { EachBlock F.step (length buffer.old) 18446744073709551615 (R.remaining reader.old) answer result (R.remaining reader.new) }
 {
     for _turn in 0..u64::MAX {
         let n = read_full(reader, buffer)?;
         if n == 0 {
-            break;
+            return Ok(());
         }
         answer(&buffer[..n])?;
     }
