@@ -4,7 +4,7 @@ use Rattle.std.proofs.Common.{◌-◌, length}
 use Rattle.input.proofs.Each.{Awaited}
 use Rattle.input.proofs.each_block.Given as goal
 
-abbrev pub invariant-loop-turn : goal.invariant-loop-turn
-invariant-loop-turn g l =
+abbrev pub invariant-loop-block : goal.invariant-loop-block
+invariant-loop-block g l =
     goal.F-IsAlwaysCallable g l.answer
-    × Awaited (goal.F-step g) (length l.initial.buffer) 18446744073709551615 (g.R.Read.remaining l.initial.reader) l.fn.answer (18446744073709551615 - l._turn) (g.R.Read.remaining l.reader) l.answer
+    × Awaited (goal.F-step g) (length l.initial.buffer) 18446744073709551615 (g.R.Read.remaining l.initial.reader) l.fn.answer (18446744073709551615 - l._block) (g.R.Read.remaining l.reader) l.answer

@@ -4,7 +4,7 @@ use Rattle.std.proofs.Common.{◌-◌}
 use Rattle.input.proofs.Each.{Pending}
 use Rattle.input.proofs.each_line.Given as goal
 
-abbrev pub invariant-loop-turn : goal.invariant-loop-turn
-invariant-loop-turn g l =
+abbrev pub invariant-loop-line : goal.invariant-loop-line
+invariant-loop-line g l =
     goal.F-IsAlwaysCallable g l.answer
-    × Pending (goal.F-step g) 18446744073709551615 l.initial.source l.initial.chunk l.fn.answer (18446744073709551615 - l._turn) l.source l.chunk l.answer
+    × Pending (goal.F-step g) 18446744073709551615 l.initial.source l.initial.chunk l.fn.answer (18446744073709551615 - l._line) l.source l.chunk l.answer
