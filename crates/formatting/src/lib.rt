@@ -25,9 +25,6 @@ use steps::CELLS;
 // Room for the longest line: four numbers and the coefficients, each with at most 20 digits and a byte beside them.
 const LINE_BYTES: usize = 21 * (4 + CELLS);
 
-// The numbers of a typed line of the census are below it.
-const NUMBER_LIMIT: u64 = 4294967296;
-
 // A line as it is written, or a part of one; clauses see its bytes.
 #[derive(Drop)]
 pub struct Line {
@@ -145,7 +142,7 @@ impl Line {
     }
 }
 
-// A number below that limit, or none.
+// A number of a typed line of the census, below 2^32, or none.
 #[derive(Clone, Copy)]
 enum Number {
     Value(u32),
@@ -342,17 +339,17 @@ fn read_number(s: &[u8]) -> Number
     if s.is_empty() {
         return Number::NoNumber;
     }
-    let mut value: u64 = 0;
+    let mut value: u32 = 0;
     for b in s {
         if !lines::is_digit(*b) {
             return Number::NoNumber;
         }
-        value = 10 * value + u64::from(*b - b'0');
-        if NUMBER_LIMIT <= value {
-            return Number::NoNumber;
+        match u32::try_from(10 * u64::from(value) + u64::from(*b - b'0')) {
+            Ok(more) => value = more,
+            Err(_) => return Number::NoNumber,
         }
     }
-    Number::Value(value as u32)
+    Number::Value(value)
 }
 
 // Both numbers, or no pair.

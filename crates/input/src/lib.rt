@@ -219,6 +219,7 @@ fn typed_of<'a>(taken: Taken, line: &'a [u8]) -> Option<Typed<'a>>
 }
 
 // Hands each line that is typed to the closure as soon as it is read, until the closure says false or the input ends.
+// Rejected: a line passed over, or handed on twice; going on after false; the end told while lines are still to come.
 pub fn each_line<R: Read, F: FnMut(Typed<'_>) -> io::Result<bool>>(
     reader: &mut R,
     mut answer: F,
@@ -244,6 +245,7 @@ pub fn each_line<R: Read, F: FnMut(Typed<'_>) -> io::Result<bool>>(
 }
 
 // Hands each block that is read to the closure, as many bytes as the buffer has; the last may be shorter.
+// Rejected: the buffer's bytes behind a last block handed on with it; a call's error kept back.
 pub fn each_block<R: Read, F: FnMut(&[u8]) -> io::Result<()>>(
     reader: &mut R,
     buffer: &mut [u8],

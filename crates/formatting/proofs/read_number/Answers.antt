@@ -17,15 +17,18 @@ returns-then-not-is_digit c =
     let l = c.loop-b in
     valued_broken l.invariant c.loop-b-test.true refl (sym c.is_digit.ensures ∙ c.if-not-is_digit.true)
 
-pub returns-then-value-ge-NUMBER_LIMIT : goal.returns-then-value-ge-NUMBER_LIMIT
-returns-then-value-ge-NUMBER_LIMIT c =
-    valued_past c.loop-b.invariant c.loop-b-test.true refl (sym c.is_digit.ensures ∙ c.if-not-is_digit.false) (omega (arith, c.from.ensures)) c.if-value-ge-NUMBER_LIMIT.true
-
-pub loop-b-preserved : goal.loop-b-preserved
-loop-b-preserved c =
-    valued_next c.loop-b.invariant c.loop-b-test.true refl (sym c.is_digit.ensures ∙ c.if-not-is_digit.false) (omega (arith, c.from.ensures)) c.if-value-ge-NUMBER_LIMIT.false
-
 pub returns : goal.returns
 returns c =
     let some = eqb-false _ 0 (sym c.is_empty.ensures ∙ c.if-is_empty.false) in
     valued_all c.loop-b.invariant (omega (arith, some)) c.loop-b-test.false
+
+pub returns-in-Err : goal.returns-in-Err
+returns-in-Err c =
+    let fits = c.in-Err.ensures in
+    valued_past c.loop-b.invariant c.loop-b-test.true refl (sym c.is_digit.ensures ∙ c.if-not-is_digit.false) refl (omega (arith, fits, c.from.ensures, c.from-in-loop-b.ensures))
+
+pub loop-b-preserved : goal.loop-b-preserved
+loop-b-preserved c =
+    let fits = c.in-Ok.ensures in
+    valued_next c.loop-b.invariant c.loop-b-test.true refl (sym c.is_digit.ensures ∙ c.if-not-is_digit.false)
+    (omega (arith, fits.1, c.from.ensures, c.from-in-loop-b.ensures)) (omega (arith, fits.0, fits.1))
