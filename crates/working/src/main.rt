@@ -89,10 +89,7 @@ enum Mode {
 // Whether there is an argument at this place, however long it is.
 fn is_given<E: Env>(env: &E, place: usize) -> bool {
     let mut none = [0u8; 0];
-    match env.arg(place, &mut none) {
-        Err(FillError::NotPresent) => false,
-        _ => true,
-    }
+    !matches!(env.arg(place, &mut none), Err(FillError::NotPresent))
 }
 
 // Whether the first argument is "lines"; one that does not fit here is not.
