@@ -22,14 +22,7 @@ pub struct Replies {
 
 // One call, coded as a number: 0 is a register, 1 a profile, 2 a column of the list, n + 3 a push of n. Whether it is refused is not asked.
 // Rejected: a register that is lent b as a and a as b.
-fn one(
-    s: &mut Sequence,
-    code: u32,
-    list: &[u8],
-    a: &mut [u8],
-    b: &mut [u8],
-    cells: &mut [u8],
-)
+fn one(s: &mut Sequence, code: u32, list: &[u8], a: &mut [u8], b: &mut [u8], cells: &mut [u8])
     ensures { state_of s.new a.new b.new cells.new
         ≡ after_code list.now (state_of s.old a.old b.old cells.old) code }
 {
