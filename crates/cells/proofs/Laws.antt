@@ -9,8 +9,10 @@ use native.Mathlib.Numerals.{add-one}
 use native.Mathlib.Omega.{arith}
 use lib.Dec.{eqb}
 use lib.ListN.{length, take, drop, set, length-append, length-set, drop_of_length-le, get_or-append}
-use lib.Seq.{take-suc, drop-cons, set_at, take_all, length-take-le, get_or-take, ext_get_or}
+use lib.Seq.{take-suc, drop-cons, set_at, take_all, length-take-le, get_or-take}
 use borrow.Author.Tests.{eqb-true, eq-eqb}
+use Rattle.std.specs.Cmp.Lexicographic.{pointwise}
+use Rattle.lists.specs.Choice.{both}
 use Rattle.lists.specs.Table.{at, tabulate}
 use Rattle.lists.proofs.Search.{false_true, both_left, both_right, both_true}
 use Rattle.lists.proofs.Table.{tabulate_eq, at_tabulate}
@@ -114,13 +116,13 @@ equal_ne xs ys h = go (equal xs ys) refl
     go true e = absurd (h (equal_eq xs ys e))
     go false e = refl
 
--- one place where two buffers differ
-pub equal_differs : (xs ys : List ℕ) (i : ℕ) → (at xs i ≡ at ys i → ⊥) → equal xs ys ≡ false
-equal_differs xs ys i h = equal_ne xs ys (λ e. h (ap (λ (zs : List ℕ). at zs i) e))
-
--- a walk that met no two bytes that differ
-pub equal_all : (xs ys : List ℕ) → length xs ≡ length ys → ((j : ℕ) → j < length xs → at xs j ≡ at ys j) → equal xs ys ≡ true
-equal_all xs ys l h = rw (← ext_get_or zero xs ys l h) (equal_self xs)
+-- what `==` answers for two slices of bytes
+pub equal_pointwise : (xs ys : List ℕ) → pointwise eqb xs ys ≡ equal xs ys
+unfolding equal
+equal_pointwise [] [] = refl
+equal_pointwise [] (y ∷ ys) = refl
+equal_pointwise (x ∷ xs) [] = refl
+equal_pointwise (x ∷ xs) (y ∷ ys) = ap (both (eqb x y)) (equal_pointwise xs ys)
 
 -- ---- the loop that writes cells
 
