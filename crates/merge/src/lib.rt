@@ -59,24 +59,24 @@ fn compare(s: Sequence, t: Sequence, g: u32) -> Outcome
     first_refusal(differ, above, i < n, i)
 }
 
-// Two moduli mu g and nu g, mu and nu coprime, their least common multiple and their meeter: taken once for all terms.
+// Two moduli mu g and nu g, mu and nu coprime, their least common multiple and their joiner: taken once for all terms.
 #[derive(Clone, Copy)]
 struct Moduli {
     multiple: u32,
     mu: u32,
     nu: u32,
     g: u32,
-    meeter: u32,
+    joiner: u32,
 }
 
 // The merged term at place i, from the terms x and y there; 0 past the n terms.
 fn merged_term(x: u32, y: u32, m: Moduli, i: usize, n: usize) -> u32
-    requires multiple_value { (m.multiple ≡ m.mu * m.nu * m.g) × (m.multiple < 65536) × Coprime m.mu m.nu × (m.meeter ≡ inverse m.nu m.mu) }
+    requires multiple_value { (m.multiple ≡ m.mu * m.nu * m.g) × (m.multiple < 65536) × Coprime m.mu m.nu × (m.joiner ≡ inverse m.nu m.mu) }
     requires x_bound { i < n → (x < m.mu * m.g) × (y < m.nu * m.g) × (x % m.g ≡ y % m.g) }
     ensures { result ≡ pick (ltb i n) (joined m.multiple (two (m.mu * m.g) x (m.nu * m.g) y)) 0 }
 {
     if i < n {
-        return residue::meet(x, y, m.mu, m.nu, m.g, m.meeter);
+        return residue::meet(x, y, m.mu, m.nu, m.g, m.joiner);
     }
     0
 }
@@ -84,7 +84,7 @@ fn merged_term(x: u32, y: u32, m: Moduli, i: usize, n: usize) -> u32
 // Writes the query of the merged terms.
 fn write_query(xs: &[u32; TERMS], ys: &[u32; TERMS], n: u32, m: Moduli, query: &mut [u8])
     requires xs_len { (length xs.now ≡ max_terms) × (length ys.now ≡ max_terms) × (n ≤ max_terms) × (length query.old ≡ query_bytes) }
-    requires multiple_value { (m.multiple ≡ m.mu * m.nu * m.g) × (m.multiple < 65536) × Coprime m.mu m.nu × (m.meeter ≡ inverse m.nu m.mu) }
+    requires multiple_value { (m.multiple ≡ m.mu * m.nu * m.g) × (m.multiple < 65536) × Coprime m.mu m.nu × (m.joiner ≡ inverse m.nu m.mu) }
     requires by_index { (i : ℕ) → i < n → (at xs.now i < m.mu * m.g) × (at ys.now i < m.nu * m.g) × (at xs.now i % m.g ≡ at ys.now i % m.g) }
     ensures { query.new ≡ query_of m.multiple
         (tabulate n (λ i. joined m.multiple (two (m.mu * m.g) (at xs.now i) (m.nu * m.g) (at ys.now i)))) }
@@ -107,13 +107,13 @@ fn write_merged(s: Sequence, t: Sequence, g: u32, query: &mut [u8])
     let mu = s.modulus / g;
     let nu = t.modulus / g;
     let multiple = s.modulus * nu;
-    let meeter = residue::meeter(mu, nu);
+    let joiner = residue::joiner(mu, nu);
     let m = Moduli {
         multiple: multiple,
         mu: mu,
         nu: nu,
         g: g,
-        meeter: meeter,
+        joiner: joiner,
     };
     write_query(&s.terms, &t.terms, s.count, m, query);
 }

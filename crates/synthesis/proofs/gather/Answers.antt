@@ -1,6 +1,6 @@
 -- `synthesis::gather` meets its contract: the prime powers of what is left are split off one by one.
 -- Assumes nothing.
-use mathlib.Core.Path.{◌≡◌, sym, ap, subst}
+use mathlib.Core.Path.{sym, ap, subst}
 use Prim.Native.Nat.{ℕ, ◌<◌, ◌*◌}
 use native.Mathlib.Omega.{arith}
 use Rattle.residue.specs.Units.{Coprime}
@@ -8,7 +8,7 @@ use Rattle.residue.specs.Factors.{least_power}
 use Rattle.residue.proofs.Factors.{least_value, value_most, rest_lt}
 use Rattle.steps.specs.declared.Ring.{Ring}
 use Rattle.steps.specs.Run.{Setting}
-use Rattle.synthesis.proofs.Gathering.{is_ring, gathered_start, rest_most, product_most, value_apart, ring_fits, gathered_next, last_start, last_next, gathered_prime, gathered_other, gathered_a, gathered_lengths}
+use Rattle.synthesis.proofs.Gathering.{is_ring, gathered_start, rest_most, product_most, value_apart, ring_fits, gathered_next, last_start, last_next, gathered_prime, gathered_a, gathered_lengths}
 use Rattle.synthesis.proofs.Logging.{logging_start, logging_fits, logging_next, logging_end}
 use Rattle.synthesis.proofs.gather.Goals as goal
 
@@ -85,19 +85,10 @@ loop-rest-preserved c =
     let x = c.extend.ensures in
     (gathered_next l.invariant.0 big _ f.rest same s.3 c.requires.0 x.0, logging_next l.invariant.1 big _ f.rest same s.3 x.1, last_next l.invariant.0 big _ _ (omega (arith, s.0)))
 
-pub shape_of-log-then-last-modulus : goal.shape_of-log-then-last-modulus
-shape_of-log-then-last-modulus c = c.loop-rest.invariant.1.noted.long
-
-pub returns-then-last-modulus : goal.returns-then-last-modulus
-returns-then-last-modulus c =
-    let l = c.loop-rest in
-    (gathered_a l.invariant.0 c.requires.0 (omega arith), gathered_lengths l.invariant.0 c.requires.0 (omega arith), logging_end l.invariant.1 (omega arith), sym (gathered_other l.invariant.0 c.requires.0 (omega arith) l.last l.invariant.2 (λ e. omega arith)))
-
 pub shape_of-log : goal.shape_of-log
 shape_of-log c = c.loop-rest.invariant.1.noted.long
 
 pub returns : goal.returns
 returns c =
     let l = c.loop-rest in
-    let whole : l.last ≡ c.args.modulus = omega arith in
-    (gathered_a l.invariant.0 c.requires.0 (omega arith), gathered_lengths l.invariant.0 c.requires.0 (omega arith), logging_end l.invariant.1 (omega arith), sym (gathered_prime l.invariant.0 c.requires.0 (omega arith) l.last l.invariant.2 whole))
+    (gathered_a l.invariant.0 c.requires.0 (omega arith), gathered_lengths l.invariant.0 c.requires.0 (omega arith), logging_end l.invariant.1 (omega arith), gathered_prime l.invariant.0 c.requires.0 (omega arith) l.last l.invariant.2)
