@@ -4,7 +4,7 @@ use mathlib.Core.Path.{◌≡◌, refl, sym, ap, ap₂, ◌∙◌}
 use mathlib.Core.Bool.{Bool, true, false, not}
 use mathlib.Core.List.{List}
 use Prim.Native.Nat.{ℕ, zero, suc, ◌+◌, ◌*◌, ◌-◌, ◌%◌, ◌≤◌, ◌<◌, min}
-use native.Mathlib.Nat.{mod-mod, mul-le-mul}
+use native.Mathlib.Nat.{mod-mod}
 use native.Mathlib.Numerals.{add-one}
 use native.Mathlib.Omega.{arith}
 use lib.Dec.{ltb, eqb}
@@ -87,10 +87,6 @@ fine_of m l a b h = go (found m l a b)
     go (fine f e) = f
 
 -- ---- the loops that sum products
-
--- a product of a 16-bit and a 32-bit number fits 48 bits
-pub product_small : (x y : ℕ) → x < 65536 → y < 4294967296 → x * y ≤ two48
-product_small x y h k = mul-le-mul {n₁ = x} {m₁ = y} {n₂ = 65536} {m₂ = 4294967296} (omega arith) (omega arith)
 
 -- the sum of the first i products by the rule f: it fits while i is small
 pub record Summed (f : ℕ → ℕ) (i sum : ℕ) : Type 0 where

@@ -2,10 +2,12 @@
 #![tactic(auto)]
 
 ghost use Rattle.std.specs.Prelude.{◌≡◌, ◌+◌, ◌*◌, ◌/◌, ◌%◌, ◌^◌, ◌≤◌, ◌<◌};
+ghost use Rattle.std.specs.Iterator.{at_most};
 ghost use Rattle.residue.specs.Congruence.{neg};
 ghost use Rattle.residue.specs.Units.{Coprime, Bezout, inverse};
 ghost use Rattle.residue.specs.Valuation.{valuation, cofactor};
 ghost use Rattle.residue.specs.Factors.{divisors_end, least_divisor, least_power, value};
+ghost use Rattle.residue.specs.Splitting.{SplitsOff};
 ghost use Rattle.residue.specs.Remainders.{joined, two};
 ghost use Rattle.residue.specs.Reduction.{scale_of};
 ghost use Rattle.residue.specs.Signed.{residue_of};
@@ -189,6 +191,38 @@ pub fn split(m: u32) -> Factor
         exponent: w.u,
         value: power(prime, w.u),
         rest: w.theta,
+    }
+}
+
+// The prime powers of a number, the least prime first: `rest` is left to be split.
+#[derive(Clone, Copy)]
+pub struct PrimePowers {
+    pub rest: u32,
+    ghost small: { rest < divisors_end },
+}
+
+pub fn prime_powers(m: u32) -> PrimePowers
+    requires { m < divisors_end }
+    ensures { result.rest ≡ m }
+{
+    PrimePowers { rest: m }
+}
+
+impl Iterator for PrimePowers {
+    type Item = Factor;
+
+    ghost next_gives = { λ s f t. SplitsOff s.rest f t.rest };
+
+    ghost remaining = { λ s. at_most s.rest };
+
+    #[tactic(auto, using(crate::proofs::Factors::rest_lt))]
+    fn next(&mut self) -> Option<Factor> {
+        if self.rest <= 1 {
+            return None;
+        }
+        let f = split(self.rest);
+        self.rest = f.rest;
+        Some(f)
     }
 }
 

@@ -99,9 +99,7 @@ fn gather(
     let mut big: u32 = 1;
     let mut first: usize = 0;
     let mut last: u32 = 1;
-    let mut rest = modulus;
-    while 1 < rest {
-        let f = residue::split(rest);
+    for f in residue::prime_powers(modulus) {
         let scale = residue::scale(f.value);
         let ring = Ring {
             p: f.prime,
@@ -113,7 +111,6 @@ fn gather(
         big *= f.value;
         first += count * f.exponent;
         last = f.prime;
-        rest = f.rest;
     }
     last == modulus
 }
@@ -137,11 +134,8 @@ pub fn count_rows(modulus: u32) -> usize
     ensures { (result ≡ rows_over (prime_powers modulus)) × (result ≤ max_rows) }
 {
     let mut sum: usize = 0;
-    let mut rest = modulus;
-    while 1 < rest {
-        let f = residue::split(rest);
+    for f in residue::prime_powers(modulus) {
         sum += f.exponent;
-        rest = f.rest;
     }
     sum
 }
