@@ -195,12 +195,13 @@ pub fn split(m: u32) -> Factor
 }
 
 // The prime powers of a number, the least prime first: `rest` is left to be split.
-#[derive(Clone, Copy)]
+#[derive(Drop)]
 pub struct PrimePowers {
     pub rest: u32,
     ghost small: { rest < divisors_end },
 }
 
+// The iterator over the prime powers of m.
 pub fn prime_powers(m: u32) -> PrimePowers
     requires { m < divisors_end }
     ensures { result.rest ≡ m }
