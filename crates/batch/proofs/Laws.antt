@@ -39,7 +39,7 @@ outcome_is queries catalogue out replies = ap (λ (b : Result Batch Refusal). ou
     go (Err r) = refl
 
 -- and says whether a buffer is filled
-filled_by : (b : Result Batch Refusal) (now lent : List ℕ) → filled b now lent ≡ filled (outcome_of b) now lent
+pub filled_by : (b : Result Batch Refusal) (now lent : List ℕ) → filled b now lent ≡ filled (outcome_of b) now lent
 filled_by (Ok x) now lent = refl
 filled_by (Err r) now lent = refl
 

@@ -2,30 +2,25 @@
 // that is anything else ends it.
 #![tactic(auto)]
 
-use input::{CHUNK, LINE_ROOM, Taken};
+use formatting::Answered;
+use input::Typed;
 use std::io;
 use std::io::{Read, Write};
 
 // Each answer is written as soon as its line is read, so that a person at a terminal has it before the next line.
 fn answer<R: Read, W: Write>(reader: &mut R, out: &mut W) -> io::Result<()> {
-    printing::census_header(out)?;
-    let mut chunk = [0u8; CHUNK];
-    let mut line = [0u8; LINE_ROOM];
-    let mut source = input::start();
-    for _ in 0..u64::MAX {
-        let t = input::next_line(reader, source, &mut chunk, &mut line)?;
-        source = t.source;
-        match t.taken {
-            Taken::Line(n) => {
-                if !printing::pair_line(out, &line[..n])? {
-                    break;
-                }
-            }
-            Taken::TooLong => return printing::no_pair_line(out),
-            Taken::Ended => break,
-        }
-    }
-    Ok(())
+    printing::line(out, &formatting::census_header())?;
+    input::each_line(reader, |typed| {
+        let answered = match typed {
+            Typed::Line(line) => formatting::pair_line(line),
+            Typed::TooLong => Answered {
+                line: formatting::no_pair_line(),
+                going: false,
+            },
+        };
+        printing::line(out, &answered.line)?;
+        Ok(answered.going)
+    })
 }
 
 fn main(rt: HostRuntime) -> io::Result<()> {

@@ -1,5 +1,4 @@
 pub mod Numeral
-pub mod Putting
 pub mod Separated
 pub mod Degree
 pub mod Wording

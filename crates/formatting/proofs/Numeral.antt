@@ -4,7 +4,6 @@ use mathlib.Core.Path.{◌≡◌, ap}
 use mathlib.Core.Bool.{false}
 use Prim.Native.Nat.{ℕ, zero, suc, ◌-◌, ◌^◌, ◌≤◌, ◌<◌}
 use native.Mathlib.Nat.{pow-le-pow_right}
-use native.Mathlib.Decide.{dec_lt}
 use native.Mathlib.Omega.{arith}
 use lib.Dec.{ltb}
 use borrow.Author.Tests.{lt-ltb, le-ltb}
@@ -28,13 +27,3 @@ fewest n (suc j) f = ap (λ (i : ℕ). last_digits 10 (suc i) n) (is_first n (λ
     before i h =
         let e : suc j - 1 ≡ j = omega arith in
         le-ltb n (10 ^ suc i) (omega (arith, f.2 (omega arith), ap (λ (x : ℕ). 10 ^ x) e, pow-le-pow_right {n = 10} (omega arith) h))
-
--- a number of 64 bits has at most 20 digits
-pub short : (n k : ℕ) → IsDigitCount 10 1 n k → n < 18446744073709551616 → k ≤ 20
-short n k f h = go (dec_lt 20 k)
-  where
-    go : Dec (20 < k) → k ≤ 20
-    go (yes long) =
-        let low : 10 ^ 20 ≤ 10 ^ (k - 1) = pow-le-pow_right {n = 10} (omega arith) {i = 20} {j = k - 1} (omega arith) in
-        absurd (omega (arith, f.2 (omega arith)))
-    go (no least) = omega arith

@@ -1,7 +1,7 @@
 -- Laws of a census's typed line: how its numbers are read, and that a printed pair is read back.
 -- Assumes nothing.
 use mathlib.Core.Path.{◌≡◌, refl, sym, ap, ap₂, ◌∙◌}
-use mathlib.Core.Bool.{Bool, true, false}
+use mathlib.Core.Bool.{Bool, true, false, cond}
 use mathlib.Core.List.{List, [], ◌∷◌, ◌++◌}
 use Prim.Native.Nat.{ℕ, zero, suc, ◌+◌, ◌*◌, ◌-◌, ◌≤◌, ◌<◌}
 use native.Mathlib.Numerals.{add-one}
@@ -9,8 +9,11 @@ use native.Mathlib.Omega.{arith}
 use lib.Dec.{eqb, ltb, leb}
 use lib.ListN.{length, take, drop, length-append, length-drop, drop_of_length-le, get_or-append}
 use lib.Seq.{drop-cons, take_all, take_at, drop-append-add, get_or-append_seam}
-use borrow.Author.Tests.{lt-ltb, le-ltb, eq-eqb, ne_eqb, leb-true}
-use Rattle.std.specs.Prelude.{Option, Some, None}
+use borrow.Author.Tests.{lt-ltb, le-ltb, eq-eqb, ne_eqb, leb-true, ltb-false}
+use Rattle.std.specs.Prelude.{Some, None, Option}
+use Rattle.std.specs.List.{position, position_or_len}
+use Rattle.std.proofs.lemmas.List.Quantifiers.{position-Some}
+use Rattle.std.proofs.lemmas.List.Sums.{passes_at_first, fails_before_first, prefix_len-le-length}
 use Rattle.lists.specs.Choice.{both}
 use Rattle.lists.specs.Table.{at}
 use Rattle.lists.specs.Search.{every}
@@ -99,14 +102,34 @@ module _ {bs : List ℕ} {v i : ℕ} (x : Valued bs v i) where
 
 -- ---- pairs
 
+-- a blank is where it is found
+pub blank_found : (line : List ℕ) {k : ℕ} → position (λ b. eqb b 32) line ≡ Some k → k ≡ blank_in line
+unfolding blank_in
+blank_found line {k} e =
+    let at_first = position-Some (λ b. eqb b 32) line k 0 e in
+    is_first (length line) (λ i. eqb (at line i) 32) k (omega (arith, at_first.0)) at_first.2 (λ h. at_first.1)
+
 -- no number stands behind a blank that is not there
-pub pair_none : (line : List ℕ) {k : ℕ} → k ≡ blank_in line → length line ≤ k → None ≡ pair_in line
-unfolding pair_in
-pair_none line {k} e h =
+pub pair_none : (line : List ℕ) → position (λ b. eqb b 32) line ≡ None → None ≡ pair_in line
+unfolding pair_in blank_in
+pair_none line e =
     sym (ap (λ (y : Option ℕ). pair_of (number_of (take (blank_in line) line)) y) none ∙ go (number_of (take (blank_in line) line)))
   where
+    p : ℕ → Bool
+    p = λ b. eqb b 32
+
+    past : length line ≤ position_or_len p line
+    past = by_test (ltb (position_or_len p line) (length line)) refl e
+      where
+        by_test : (t : Bool) → ltb (position_or_len p line) (length line) ≡ t → cond t (Some (position_or_len p line)) None ≡ None → length line ≤ position_or_len p line
+        by_test true f g = absurd (cc)
+        by_test false f g = ltb-false _ _ f
+
+    is : position_or_len p line ≡ blank_in line
+    is = is_first (length line) (λ i. p (at line i)) (position_or_len p line) (prefix_len-le-length _ line) (λ j h. fails_before_first p line j 0 h) (λ h. passes_at_first p line 0 h)
+
     rest : drop (suc (blank_in line)) line ≡ []
-    rest = drop_of_length-le line {i = suc (blank_in line)} (omega (arith, e))
+    rest = drop_of_length-le line {i = suc (blank_in line)} (omega (arith, is, past))
 
     none : number_of (drop (suc (blank_in line)) line) ≡ None
     none = ap number_of rest ∙ sym (no_digits [] refl)

@@ -1,14 +1,15 @@
--- Laws of numbers put into a buffer with a mark between them.
+-- Laws of numbers with a mark between them.
 -- Assumes nothing.
-use mathlib.Core.Path.{◌≡◌, refl, sym, ap, ◌∙◌}
+use mathlib.Core.Path.{◌≡◌, refl, sym, ap, ◌∙◌, subst}
 use mathlib.Core.List.{List, [], ◌∷◌, ◌++◌, append-nil, append_assoc}
-use Prim.Native.Nat.{ℕ, zero, suc, ◌+◌, ◌*◌, ◌≤◌, ◌<◌}
+use Prim.Native.Nat.{ℕ, zero, suc, ◌+◌, ◌*◌, ◌-◌, ◌≤◌, ◌<◌}
+use native.Mathlib.Numerals.{add-one}
 use native.Mathlib.Omega.{arith}
-use lib.ListN.{length}
-use Rattle.lists.specs.Table.{tabulate}
+use lib.ListN.{length, take, length-append}
+use lib.Seq.{take-suc}
+use Rattle.lists.specs.Table.{at, tabulate}
 use Rattle.lists.proofs.Table.{tabulate_last}
-use Rattle.formatting.specs.Text.{numeral, each_after, separated, Put}
-use Rattle.formatting.proofs.Putting.{put_none, put_more, put_size, put_as}
+use Rattle.formatting.specs.Text.{numeral, each_after, separated}
 
 -- a number behind a mark, and more of them
 pub after_one : (mark : List ℕ) (n : ℕ) → mark ++ numeral n ≡ each_after mark (n ∷ [])
@@ -25,52 +26,54 @@ separated_one : (mark : List ℕ) (n : ℕ) → numeral n ≡ separated mark (n 
 unfolding separated each_after
 separated_one mark n = sym (append-nil (numeral n))
 
-separated_more : (mark : List ℕ) (x : ℕ) (xs : List ℕ) (n : ℕ) → separated mark (x ∷ xs) ++ each_after mark (n ∷ []) ≡ separated mark (x ∷ (xs ++ (n ∷ [])))
+-- one more, behind some
+separated_more : (mark : List ℕ) (xs : List ℕ) (n : ℕ) → zero < length xs → separated mark xs ++ each_after mark (n ∷ []) ≡ separated mark (xs ++ (n ∷ []))
 unfolding separated
-separated_more mark x xs n =
+separated_more mark [] n h = absurd (omega (arith, h))
+separated_more mark (x ∷ xs) n h =
     append_assoc (numeral x) (each_after mark xs) (each_after mark (n ∷ []))
     ∙ ap (λ (zs : List ℕ). numeral x ++ zs) (sym (after_append mark xs (n ∷ [])))
 
-pub separated_two : (mark : List ℕ) (m n : ℕ) → numeral m ++ each_after mark (n ∷ []) ≡ separated mark (m ∷ n ∷ [])
-separated_two mark m n = ap (λ (zs : List ℕ). zs ++ each_after mark (n ∷ [])) (separated_one mark m) ∙ separated_more mark m [] n
+-- no numbers
+pub separated_none : (line mark xs : List ℕ) → length xs ≡ zero → line ≡ line ++ separated mark xs
+unfolding separated
+separated_none line mark [] h = sym (append-nil line)
+separated_none line mark (x ∷ xs) h = absurd (omega (arith, h))
 
-pub separated_four : (mark : List ℕ) (m n d l : ℕ)
-    → separated mark (m ∷ n ∷ []) ++ each_after mark (d ∷ []) ++ each_after mark (l ∷ []) ≡ separated mark (m ∷ n ∷ d ∷ l ∷ [])
-separated_four mark m n d l =
-    ap (λ (zs : List ℕ). zs ++ each_after mark (l ∷ [])) (separated_more mark m (n ∷ []) d)
-    ∙ separated_more mark m (n ∷ d ∷ []) l
+-- What a loop keeps that writes numbers with a mark between them behind the bytes that were there: some are written.
+pub record Written (mark before xs line : List ℕ) : Type 0 where
+  pub some : zero < length xs
+  pub text : line ≡ before ++ separated mark xs
+  pub room : length line ≤ length before + (21 * length xs - 1)
 
--- The loop that puts f 0, f 1, .., f (d - 1), each behind the mark: i of them are there.
-pub record Sofar (mark : List ℕ) (f : ℕ → ℕ) (d : ℕ) (out₀ : List ℕ) (k : ℕ) (out : List ℕ) (end i : ℕ) : Type 0 where
-  pub within : i ≤ d
-  pub room : end ≤ k + 21 * i
-  pub text : Put out₀ k (each_after mark (tabulate i f)) out end
+pub written_first : {before line : List ℕ} (mark : List ℕ) {v n : ℕ} → v ≡ n → line ≡ before ++ numeral v → length line ≤ length before + 20
+    → Written mark before (n ∷ []) line
+written_first {before} mark {v} {n} f e h =
+    record { some = omega arith; text = e ∙ ap (λ (x : ℕ). before ++ numeral x) f ∙ ap (λ (xs : List ℕ). before ++ xs) (separated_one mark n); room = h }
 
-pub sofar_none : (mark : List ℕ) (f : ℕ → ℕ) (d : ℕ) (out : List ℕ) (k : ℕ) → k ≤ length out → Sofar mark f d out k out k zero
-unfolding tabulate each_after
-sofar_none mark f d out k h = record { within = omega arith; room = omega arith; text = put_none out k h }
+pub written_next : {mark before xs line line' : List ℕ} (n : ℕ) → Written mark before xs line → line' ≡ line ++ each_after mark (n ∷ []) → length line' ≤ length line + 21
+    → Written mark before (xs ++ (n ∷ [])) line'
+written_next {mark} {before} {xs} {line} {line'} n w e h =
+    let size : length (xs ++ (n ∷ [])) ≡ length xs + 1 = length-append xs (n ∷ []) in
+    record {
+      some = omega (arith, size);
+      text =
+          e ∙ ap (λ (ys : List ℕ). ys ++ each_after mark (n ∷ [])) w.text
+          ∙ append_assoc before (separated mark xs) (each_after mark (n ∷ []))
+          ∙ ap (λ (ys : List ℕ). before ++ ys) (separated_more mark xs n w.some);
+      room = omega (arith, size, w.some, w.room, h);
+    }
 
-module _ {mark : List ℕ} {f : ℕ → ℕ} {d : ℕ} {out₀ : List ℕ} {k : ℕ} {out : List ℕ} {end i : ℕ} (x : Sofar mark f d out₀ k out end i) where
-  pub sofar_size : length out ≡ length out₀
-  sofar_size = put_size x.text
+pub written_cell : {mark before line line' : List ℕ} (f : ℕ → ℕ) (i : ℕ) {v : ℕ} → Written mark before (tabulate i f) line → v ≡ f i
+    → line' ≡ line ++ each_after mark (v ∷ []) → length line' ≤ length line + 21 → Written mark before (tabulate (i + 1) f) line'
+written_cell {mark} {before} {line} {line'} f i {v} w e g h =
+    subst (λ (xs : List ℕ). Written mark before xs line')
+    (ap (λ (x : ℕ). tabulate i f ++ (x ∷ [])) e ∙ sym (tabulate_last i f) ∙ ap (λ (j : ℕ). tabulate j f) (let s : suc i ≡ i + 1 = omega arith in s))
+    (written_next v w g h)
 
-  pub sofar_more : {v r : ℕ} {out' : List ℕ} → i < d → v ≡ f i → Put out end (each_after mark (v ∷ [])) out' r → r ≤ end + 21
-      → Sofar mark f d out₀ k out' r (i + 1)
-  sofar_more {v} {r} {out'} h e p room =
-      record {
-        within = omega arith;
-        room = omega (arith, x.room);
-        text = put_as joined (put_more x.text p);
-      }
-    where
-      joined : each_after mark (tabulate i f) ++ each_after mark (v ∷ []) ≡ each_after mark (tabulate (i + 1) f)
-      joined =
-          ap (λ (y : ℕ). each_after mark (tabulate i f) ++ each_after mark (y ∷ [])) e
-          ∙ sym (after_append mark (tabulate i f) (f i ∷ []))
-          ∙ ap (each_after mark) (sym (tabulate_last i f))
-          ∙ ap (λ (j : ℕ). each_after mark (tabulate j f)) (let s : suc i ≡ i + 1 = omega arith in s)
-
-  pub sofar_all : d ≤ i → record { put : Put out₀ k (each_after mark (tabulate d f)) out end; upper_bound : end ≤ k + 21 * d }
-  sofar_all h =
-      let e : i ≡ d = omega (arith, x.within) in
-      record { put = put_as (ap (λ (j : ℕ). each_after mark (tabulate j f)) e) x.text; upper_bound = omega (arith, x.room) }
+pub written_number : {mark before line line' : List ℕ} (n : ℕ) (ns : List ℕ) (i : ℕ) {v : ℕ} → Written mark before (n ∷ take i ns) line → i < length ns → v ≡ at ns i
+    → line' ≡ line ++ each_after mark (v ∷ []) → length line' ≤ length line + 21 → Written mark before (n ∷ take (i + 1) ns) line'
+written_number {mark} {before} {line} {line'} n ns i {v} w l e g h =
+    subst (λ (xs : List ℕ). Written mark before (n ∷ xs) line')
+    (ap (λ (x : ℕ). take i ns ++ (x ∷ [])) e ∙ sym (ap (λ (k : ℕ). take k ns) (add-one i) ∙ take-suc ns i 0 l))
+    (written_next v w g h)

@@ -2,7 +2,8 @@
 -- Assumes nothing.
 use mathlib.Core.Path.{◌≡◌, sym, ap, ◌∙◌}
 use mathlib.Core.List.{List, [], ◌∷◌, ◌++◌}
-use Prim.Native.Nat.{ℕ, suc, ◌<◌}
+use Prim.Native.Nat.{ℕ, ◌+◌, ◌<◌}
+use native.Mathlib.Numerals.{add-one}
 use lib.ListN.{length}
 use borrow.Author.Tests.{eq-eqb}
 use Rattle.std.specs.Prelude.{Ok, Err}
@@ -14,19 +15,16 @@ use Rattle.sequence.specs.Report.{filled}
 use Rattle.sequence.proofs.Laws.{refused_done}
 use Rattle.enumeration.specs.Rules.{lengths, tally_bytes, counted_of, tally_in, tally_of, tally_cells}
 use Rattle.enumeration.proofs.Laws.{Count, modulus, count, many, fits, counting}
-use Rattle.formatting.specs.Text.{separated, Put}
+use Rattle.formatting.specs.Text.{separated}
 use Rattle.formatting.specs.Listing.{refusal_line}
 use Rattle.formatting.specs.Census.{tally_line, tallied_line, census_line}
-use Rattle.formatting.proofs.Putting.{put_as}
 use Rattle.sequence.specs.Answers.{Outcome}
 
--- the cells that are put are those of the lengths 0 to n
-pub cells_told : {out out' : List ℕ} {k r : ℕ} (m n size : ℕ) (cells : List ℕ)
-    → Put out k (separated (bytes " ") (m ∷ n ∷ []) ++ bytes " " ++ separated (bytes ",") (tabulate size (cell_at cells)) ++ bytes "\n") out' r
-    → size ≡ suc n → Put out k (tally_line m n cells) out' r
+-- the cells that are written are those of the lengths 0 to n
+pub cells_told : (m n : ℕ) (cells : List ℕ)
+    → separated (bytes " ") (m ∷ n ∷ []) ++ bytes " " ++ separated (bytes ",") (tabulate (n + 1) (cell_at cells)) ++ bytes "\n" ≡ tally_line m n cells
 unfolding tally_line
-cells_told m n size cells p e =
-    put_as (ap (λ (x : ℕ). separated (bytes " ") (m ∷ n ∷ []) ++ bytes " " ++ separated (bytes ",") (tabulate x (cell_at cells)) ++ bytes "\n") e) p
+cells_told m n cells = ap (λ (x : ℕ). separated (bytes " ") (m ∷ n ∷ []) ++ bytes " " ++ separated (bytes ",") (tabulate x (cell_at cells)) ++ bytes "\n") (add-one n)
 
 -- a tally into a buffer of its length
 module _ (m n : ℕ) (lent : List ℕ) (size : length lent ≡ tally_bytes) where

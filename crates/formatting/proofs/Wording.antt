@@ -2,7 +2,8 @@
 -- Assumes nothing.
 use mathlib.Core.Path.{◌≡◌, refl, sym, ap, ap₂, ◌∙◌}
 use mathlib.Core.List.{List, [], ◌∷◌, ◌++◌}
-use Prim.Native.Nat.{ℕ, suc}
+use Prim.Native.Nat.{ℕ, suc, ◌+◌}
+use native.Mathlib.Numerals.{add-one}
 use native.Mathlib.Omega.{arith}
 use Rattle.std.specs.Prelude.{Option}
 use Rattle.lists.specs.Table.{at, tabulate}
@@ -16,22 +17,20 @@ use Rattle.sequence.specs.declared.Refusal.{Refusal}
 use Rattle.sequence.specs.Limits.{max_cells}
 use Rattle.sequence.specs.Answers.{refusal, placed}
 use Rattle.candidate.specs.Rules.{a_cells}
-use Rattle.formatting.specs.Text.{numeral, separated, Put}
+use Rattle.formatting.specs.Text.{numeral, separated}
 use Rattle.formatting.specs.Listing.{register_line, place_text, refusal_text}
 use Rattle.formatting.proofs.Degree.{degree_cells}
-use Rattle.formatting.proofs.Putting.{put_as}
 
 -- the number that stands as the order is the degree, and the cells that are printed end there
-pub register_told_lem : {out out' : List ℕ} {k r : ℕ} (m n order count l : ℕ) (a : List ℕ)
-    → Put out k (separated (bytes " ") (m ∷ n ∷ order ∷ l ∷ []) ++ bytes " " ++ separated (bytes ",") (tabulate count (cell_at a)) ++ bytes "\n") out' r
-    → order ≡ degree (a_cells a) → count ≡ suc (degree (a_cells a)) → Put out k (register_line m n l (a_cells a)) out' r
+pub register_told_lem : (m n order l : ℕ) (a : List ℕ) → order ≡ degree (a_cells a)
+    → separated (bytes " ") (m ∷ n ∷ order ∷ l ∷ []) ++ bytes " " ++ separated (bytes ",") (tabulate (order + 1) (cell_at a)) ++ bytes "\n" ≡ register_line m n l (a_cells a)
 unfolding register_line
-register_told_lem m n order count l a p e f =
-    put_as (ap₂ (λ (x : ℕ) (ys : List ℕ). separated (bytes " ") (m ∷ n ∷ x ∷ l ∷ []) ++ bytes " " ++ separated (bytes ",") ys ++ bytes "\n") e same) p
+register_told_lem m n order l a e =
+    ap₂ (λ (x : ℕ) (ys : List ℕ). separated (bytes " ") (m ∷ n ∷ x ∷ l ∷ []) ++ bytes " " ++ separated (bytes ",") ys ++ bytes "\n") e same
   where
-    same : tabulate count (cell_at a) ≡ tabulate (suc (degree (a_cells a))) (at (a_cells a))
+    same : tabulate (order + 1) (cell_at a) ≡ tabulate (suc (degree (a_cells a))) (at (a_cells a))
     same =
-        ap (λ (c : ℕ). tabulate c (cell_at a)) f
+        ap (λ (c : ℕ). tabulate c (cell_at a)) (add-one order ∙ ap suc e)
         ∙ tabulate_eq (suc (degree (a_cells a))) (cell_at a) (at (a_cells a)) (λ i h. sym (at_cells a max_cells i (omega (arith, degree_cells a))))
 
 pub refusal_pieces : (r : Refusal) (n : ℕ) (p : Option ℕ) → n ≡ (refusal r).number → placed p ≡ (refusal r).values

@@ -11,7 +11,7 @@ use Rattle.sequence.specs.declared.Refusal.{Refusal}
 use Rattle.sequence.specs.declared.Uniqueness.{Uniqueness}
 use Rattle.sequence.specs.declared.Uniqueness.TheVariants as U
 use Rattle.sequence.specs.Limits.{a_bytes}
-use Rattle.sequence.specs.Answers.{refusal, Outcome, Reported, of_length}
+use Rattle.sequence.specs.Answers.{refusal, Outcome, Reported}
 use Rattle.sequence.specs.Rules.{sequence_of, check_of}
 use Rattle.sequence.specs.Report.{register_of}
 use Rattle.lines.specs.Reading.{Found, found_in}
@@ -61,7 +61,7 @@ query_line query = line_of (check_of query) (sequence_of query)
 
 -- the line of a register that is reported for a sequence: by the length replied and the cells of a
 abbrev pub reported_line : Sequence → Reported → List ℕ → List ℕ
-reported_line s (of_length l w) a = register_line s.modulus s.count l (a_cells a)
+reported_line s (Ok x) a = register_line s.modulus s.count x.length (a_cells a)
 reported_line s (Err r) a = refusal_line r
 
 -- whether a register is the only one, in words
@@ -72,7 +72,7 @@ uniqueness_text U.NotTold = bytes "not told"
 
 -- the line below that of a register that is reported, in a working; none below a refusal
 abbrev pub uniqueness_line : Reported → List ℕ
-uniqueness_line (of_length l w) = uniqueness_text w ++ bytes "\n"
+uniqueness_line (Ok x) = uniqueness_text x.uniqueness ++ bytes "\n"
 uniqueness_line (Err r) = []
 
 -- the line that answers a typed line: its refusal, or the line of the query that it becomes

@@ -1,6 +1,6 @@
--- Numbers as text, and a text in a buffer.
+-- Numbers as text.
 -- Assumes nothing.
-use Rattle.std.specs.Prelude.{◌≡◌, List, [], ◌∷◌, ◌++◌, ℕ, suc, ◌+◌, ◌^◌, ◌≤◌, ltb, length, take, drop}
+use Rattle.std.specs.Prelude.{List, [], ◌∷◌, ◌++◌, ℕ, suc, ◌^◌, ltb}
 use Rattle.io.specs.Digits.{last_digits}
 use Rattle.lists.specs.Search.{first}
 
@@ -17,9 +17,3 @@ each_after mark (x ∷ xs) = mark ++ numeral x ++ each_after mark xs
 unfoldable pub separated : List ℕ → List ℕ → List ℕ
 separated mark [] = []
 separated mark (x ∷ xs) = numeral x ++ each_after mark xs
-
--- a text was put into a buffer from place k on: it ends before place r, and all around it is as it was
-pub record Put (out : List ℕ) (k : ℕ) (text out' : List ℕ) (r : ℕ) : Type 0 where
-  pub ends : r ≡ k + length text
-  pub fits : r ≤ length out
-  pub is : out' ≡ take k out ++ text ++ drop r out

@@ -1,85 +1,149 @@
-// The listing's lines as bytes in a lent buffer, and the line of a working that says whether a register is the only one; the census's lines,
-// and the reading of a typed line that asks for one.
-#![tactic(auto)]
+// The listing's lines, and the line of a working that says whether a register is the only one; the census's lines, and the reading of a typed
+// line that asks for one. A line is made in a buffer of its own with room for the longest.
+#![tactic(auto, unfolding(lists::specs::Text::bytes))]
 
-ghost use Rattle.std.specs.Prelude.{◌≡◌, true, [], ◌∷◌, suc, ◌+◌, ◌*◌, ◌-◌, ◌≤◌, ◌<◌, length};
-ghost use Rattle.io.specs.Counts.{IsPrefixLen};
+ghost use Rattle.std.specs.Prelude.{◌≡◌, ◌==◌, ℕ, List, [], ◌∷◌, ◌++◌, ◌+◌, ◌*◌, ◌-◌, ◌≤◌, ◌<◌, length, take, position};
 ghost use Rattle.lists.specs.Table.{tabulate};
 ghost use Rattle.lists.specs.Text.{bytes};
 ghost use Rattle.cells.specs.Cell.{cell_at};
 ghost use Rattle.recurrence.specs.Polynomial.{degree};
 ghost use Rattle.sequence.specs.Limits.{a_bytes};
 ghost use Rattle.sequence.specs.Answers.{placed};
-ghost use Rattle.lines.specs.Form.{is_digit};
 ghost use Rattle.enumeration.specs.Rules.{lengths, tally_bytes};
 ghost use Rattle.candidate.specs.Rules.{a_cells};
 ghost use Rattle.catalogue.specs.Rules.{record_bytes};
-ghost use Rattle.formatting.specs.Text.{numeral, each_after, separated, Put};
+ghost use Rattle.formatting.specs.Text.{numeral, each_after, separated};
 ghost use Rattle.formatting.specs.Listing.{line_bytes, header, register_line, record_line, place_text, refusal_text, refusal_line, query_line, reported_line, uniqueness_text, uniqueness_line, typed_line};
-ghost use Rattle.formatting.specs.Census.{number_limit, census_header, tally_line, census_line, number_of, blank_in, pair_of, pair_in, no_pair_line, pair_line, is_pair};
+ghost use Rattle.formatting.specs.Census.{census_header, tally_line, census_line, number_of, pair_in, no_pair_line, pair_line, is_pair};
 
 use catalogue::{A_PLACE, B_PLACE, LENGTH_CELL, RECORD_BYTES};
 use enumeration::TALLY_BYTES;
-use sequence::{Outcome, Place, QUERY_BYTES, Refusal, Reported, Sequence, Uniqueness};
+use sequence::{QUERY_BYTES, Refusal, Report, Sequence, Uniqueness};
+use std::marker::Model;
 use steps::CELLS;
 
 // Room for the longest line: four numbers and the coefficients, each with at most 20 digits and a byte beside them.
-pub const LINE_BYTES: usize = 21 * (4 + CELLS);
+const LINE_BYTES: usize = 21 * (4 + CELLS);
 
-// The numbers of a typed line of the census are below it.
-const NUMBER_LIMIT: u64 = 4294967296;
-
-// A number below that limit, or none.
-#[derive(Clone, Copy)]
-enum Number {
-    Value(u32),
-    NoNumber,
+// A line as it is written, or a part of one; clauses see its bytes.
+#[derive(Drop)]
+pub struct Line {
+    buffer: [u8; LINE_BYTES],
+    end: usize,
 }
 
-// What a typed line of the census says: a modulus and a count, or neither.
-#[derive(Clone, Copy)]
-pub enum Pair {
-    Numbers(u32, u32),
-    NoPair,
+impl Model for Line {
+    ghost Value = { List ℕ };
+
+    ghost view = { λ l. take l.end l.buffer };
+
+    ghost invariant = { λ l. l.end ≤ line_bytes };
 }
 
-// Where the line ends that answers a typed one, and whether the census goes on.
-#[derive(Clone, Copy)]
+impl Line {
+    pub fn new() -> Self
+        ensures { result ≡ [] }
+    {
+        Line {
+            buffer: [0; LINE_BYTES],
+            end: 0,
+        }
+    }
+
+    // The line of a text.
+    pub fn of(s: &[u8]) -> Self
+        requires { length s.now ≤ line_bytes }
+        ensures { result ≡ s.now }
+    {
+        let mut line = Line::new();
+        line.text(s);
+        line
+    }
+
+    pub fn as_bytes(&self) -> &[u8]
+        ensures { result.now ≡ self.now }
+    {
+        &self.buffer[..self.end]
+    }
+
+    // A text behind what is there.
+    pub fn text(&mut self, s: &[u8])
+        requires { length self.old + length s.now ≤ line_bytes }
+        ensures { self.new ≡ self.old ++ s.now }
+    {
+        let end = self.end + s.len();
+        self.buffer[self.end..end].copy_from_slice(s);
+        self.end = end;
+    }
+
+    // A number in decimal.
+    pub fn number(&mut self, n: u64)
+        requires { length self.old + 20 ≤ line_bytes }
+        ensures text { self.new ≡ self.old ++ numeral n }
+        ensures upper_bound { length self.new ≤ length self.old + 20 }
+    {
+        let mut digits = [0u8; 20];
+        let count = io::decimal(n, &mut digits);
+        self.text(&digits[..count]);
+    }
+
+    // A number behind a byte.
+    pub fn number_after(&mut self, mark: u8, n: u64)
+        requires { length self.old + 21 ≤ line_bytes }
+        ensures text { self.new ≡ self.old ++ each_after (mark ∷ []) (n ∷ []) }
+        ensures upper_bound { length self.new ≤ length self.old + 21 }
+    {
+        self.text(&[mark]);
+        self.number(n);
+    }
+
+    // Numbers with blanks between them.
+    fn numbers(&mut self, numbers: &[u32])
+        requires { length self.old + (21 * length numbers.now - 1) ≤ line_bytes }
+        ensures text { self.new ≡ self.old ++ separated (bytes " ") numbers.now }
+        ensures upper_bound { length self.new ≤ length self.old + (21 * length numbers.now - 1) }
+    {
+        if let Some((first, rest)) = numbers.split_first() {
+            self.number(u64::from(*first));
+            for n in rest {
+                self.number_after(b' ', u64::from(*n));
+            }
+        }
+    }
+
+    // The first cells with commas between them.
+    fn cells(&mut self, s: &[u8], count: u32)
+        requires { (2 * count ≤ length s.now) × (length self.old + (21 * count - 1) ≤ line_bytes) }
+        ensures text { self.new ≡ self.old ++ separated (bytes ",") (tabulate count (cell_at s.now)) }
+        ensures upper_bound { length self.new ≤ length self.old + (21 * count - 1) }
+    {
+        if count == 0 {
+            return;
+        }
+        self.number(u64::from(cells::cell(s, 0)));
+        for i in 1..count {
+            self.number_after(b',', u64::from(cells::cell(s, i as usize)));
+        }
+    }
+
+    // The place that a refusal carries.
+    fn place(&mut self, p: Option<usize>)
+        requires { length self.old + 24 ≤ line_bytes }
+        ensures text { self.new ≡ self.old ++ place_text (placed p) }
+        ensures upper_bound { length self.new ≤ length self.old + 24 }
+    {
+        if let Some(i) = p {
+            self.text(b" at ");
+            self.number(i as u64);
+        }
+    }
+}
+
+// The line that answers a typed one, and whether the census goes on.
+#[derive(Drop)]
 pub struct Answered {
-    pub end: usize,
+    pub line: Line,
     pub going: bool,
-}
-
-// A text at place k; gives the place behind it.
-fn put(s: &[u8], out: &mut [u8], k: usize) -> usize
-    requires { k + length s.now ≤ length out.old }
-    ensures { Put out.old k s.now out.new result }
-{
-    let end = k + s.len();
-    cells::copy(s, &mut out[k..end]);
-    end
-}
-
-// A number in decimal.
-pub fn put_number(n: u64, out: &mut [u8], k: usize) -> usize
-    requires { k + 20 ≤ length out.old }
-    ensures put { Put out.old k (numeral n) out.new result }
-    ensures upper_bound { result ≤ k + 20 }
-{
-    let mut digits = [0u8; 20];
-    let count = io::decimal(n, &mut digits);
-    put(&digits[..count], out, k)
-}
-
-// A number behind a byte.
-pub fn put_behind(c: u8, n: u64, out: &mut [u8], k: usize) -> usize
-    requires { k + 21 ≤ length out.old }
-    ensures put { Put out.old k (each_after (c ∷ []) (n ∷ [])) out.new result }
-    ensures upper_bound { result ≤ k + 21 }
-{
-    let mark = [c];
-    let place = put(&mark, out, k);
-    put_number(n, out, place)
 }
 
 // The order of the register with these cells of a: the degree, the last place that is not 0.
@@ -88,341 +152,225 @@ fn order(a: &[u8]) -> u32
     requires { length a.now ≡ a_bytes }
     ensures { result ≡ degree (a_cells a.now) }
 {
-    let mut i: usize = CELLS - 1;
-    while i > 0 {
+    for i in (1..CELLS).rev() {
         if cells::cell(a, i) != 0 {
             return i as u32;
         }
-        i -= 1;
     }
     0
 }
 
-// Cells 1 to d, each behind a comma.
-fn put_rest(s: &[u8], d: u32, out: &mut [u8], k: usize) -> usize
-    requires { (2 * d + 1 < length s.now) × (k + 21 * d ≤ length out.old) }
-    ensures put { Put out.old k (each_after (bytes ",") (tabulate d (λ i. cell_at s.now (suc i)))) out.new result }
-    ensures upper_bound { result ≤ k + 21 * d }
+// Numbers with blanks between them, a blank, and the first cells with commas between them.
+fn row(numbers: &[u32], s: &[u8], count: u32) -> Line
+    requires { (2 * count ≤ length s.now) × ((21 * length numbers.now - 1) + 1 + (21 * count - 1) + 1 ≤ line_bytes) }
+    ensures { result ≡ separated (bytes " ") numbers.now ++ bytes " " ++ separated (bytes ",") (tabulate count (cell_at s.now)) ++ bytes "\n" }
 {
-    let mut end = k;
-    let mut i: usize = 0;
-    while i < d as usize {
-        i += 1;
-        end = put_behind(b',', cells::cell(s, i) as u64, out, end);
-    }
-    end
-}
-
-// The first cells with commas between them.
-fn put_cells(s: &[u8], count: u32, out: &mut [u8], k: usize) -> usize
-    requires { (2 * count ≤ length s.now) × (k + 20 * count + (count - 1) ≤ length out.old) }
-    ensures put { Put out.old k (separated (bytes ",") (tabulate count (cell_at s.now))) out.new result }
-    ensures upper_bound { result ≤ k + 20 * count + (count - 1) }
-{
-    if count == 0 {
-        return k;
-    }
-    let rest = put_number(cells::cell(s, 0) as u64, out, k);
-    put_rest(s, count - 1, out, rest)
-}
-
-// Modulus and count with a blank between them.
-fn put_pair(modulus: u32, count: u32, out: &mut [u8]) -> usize
-    requires { 41 ≤ length out.old }
-    ensures put { Put out.old 0 (separated (bytes " ") (modulus ∷ count ∷ [])) out.new result }
-    ensures upper_bound { result ≤ 41 }
-{
-    let first = put_number(modulus as u64, out, 0);
-    put_behind(b' ', count as u64, out, first)
-}
-
-// Modulus, count, order and start with blanks between them.
-fn put_numbers(modulus: u32, count: u32, order: u32, start: u32, out: &mut [u8]) -> usize
-    requires { 83 ≤ length out.old }
-    ensures put { Put out.old 0 (separated (bytes " ") (modulus ∷ count ∷ order ∷ start ∷ [])) out.new result }
-    ensures upper_bound { result ≤ 83 }
-{
-    let pair = put_pair(modulus, count, out);
-    let third = put_behind(b' ', order as u64, out, pair);
-    put_behind(b' ', start as u64, out, third)
+    let mut line = Line::new();
+    line.numbers(numbers);
+    line.text(b" ");
+    line.cells(s, count);
+    line.text(b"\n");
+    line
 }
 
 // The listing's first line.
-pub fn header_line(out: &mut [u8]) -> usize
-    requires { length out.old ≡ line_bytes }
-    ensures prefix_len { IsPrefixLen result out.new }
-    ensures put { Put out.old 0 header out.new result }
+pub fn header_line() -> Line
+    ensures { result ≡ header }
 {
-    put(b"modulus count order start register\n", out, 0)
+    Line::of(b"modulus count order start register\n")
 }
 
 // The listing's line of a register of length l with the cells of a: modulus, count, order, start, and a_0 up to the order.
 // Rejected: the length as the order; a coefficient too few.
-fn register_line(modulus: u32, count: u32, l: u32, a: &[u8], out: &mut [u8]) -> usize
-    requires { (length a.now ≡ a_bytes) × (length out.old ≡ line_bytes) }
-    ensures prefix_len { IsPrefixLen result out.new }
-    ensures put { Put out.old 0 (register_line modulus count l (a_cells a.now)) out.new result }
+#[tactic(auto, using(crate::proofs::Degree::degree_cells, crate::proofs::Wording::register_told_lem), unfolding(lists::specs::Text::bytes))]
+fn register_line(modulus: u32, count: u32, l: u32, a: &[u8]) -> Line
+    requires { length a.now ≡ a_bytes }
+    ensures { result ≡ register_line modulus count l (a_cells a.now) }
 {
     let d = order(a);
-    let numbers = put_numbers(modulus, count, d, l, out);
-    let place = put(b" ", out, numbers);
-    let end = put_cells(a, d + 1, out, place);
-    put(b"\n", out, end)
-}
-
-// The place that a refusal carries.
-fn put_place(p: Place, out: &mut [u8], k: usize) -> usize
-    requires { k + 24 ≤ length out.old }
-    ensures put { Put out.old k (place_text (placed p)) out.new result }
-    ensures upper_bound { result ≤ k + 24 }
-{
-    match p {
-        Place::At(i) => {
-            let place = put(b" at ", out, k);
-            put_number(i as u64, out, place)
-        }
-        Place::Nowhere => k,
-    }
+    row(&[modulus, count, d, l], a, d + 1)
 }
 
 // A refusal by its number, with its place; the line may go on.
-pub fn refusal_text(r: Refusal, out: &mut [u8]) -> usize
-    requires { length out.old ≡ line_bytes }
-    ensures prefix_len { IsPrefixLen result out.new }
-    ensures put { Put out.old 0 (refusal_text r) out.new result }
-    ensures upper_bound { result ≤ 52 }
+#[tactic(auto, using(crate::proofs::Wording::refusal_pieces), unfolding(lists::specs::Text::bytes))]
+pub fn refusal_text(r: Refusal) -> Line
+    ensures text { result ≡ refusal_text r }
+    ensures upper_bound { length result ≤ 52 }
 {
-    let place = put(b"refused ", out, 0);
-    let end = put_number(sequence::number(r), out, place);
-    put_place(sequence::place_of(r), out, end)
+    let mut line = Line::of(b"refused ");
+    line.number(r.number());
+    line.place(r.place());
+    line
 }
 
-pub fn refusal_line(r: Refusal, out: &mut [u8]) -> usize
-    requires { length out.old ≡ line_bytes }
-    ensures prefix_len { IsPrefixLen result out.new }
-    ensures put { Put out.old 0 (refusal_line r) out.new result }
+pub fn refusal_line(r: Refusal) -> Line
+    ensures { result ≡ refusal_line r }
 {
-    let end = refusal_text(r, out);
-    put(b"\n", out, end)
+    let mut line = refusal_text(r);
+    line.text(b"\n");
+    line
 }
 
 // The line of the register in a record.
-fn record_line(entry: &[u8], out: &mut [u8]) -> usize
-    requires { (length entry.now ≡ record_bytes) × (length out.old ≡ line_bytes) }
-    ensures prefix_len { IsPrefixLen result out.new }
-    ensures put { Put out.old 0 (record_line entry.now) out.new result }
+fn record_line(entry: &[u8]) -> Line
+    requires { length entry.now ≡ record_bytes }
+    ensures { result ≡ record_line entry.now }
 {
     let modulus = cells::cell(entry, 0);
     let count = cells::cell(entry, 1);
     let l = cells::cell(entry, LENGTH_CELL);
-    register_line(modulus, count, l, &entry[A_PLACE..B_PLACE], out)
+    register_line(modulus, count, l, &entry[A_PLACE..B_PLACE])
 }
 
 // The listing's line of a query, or its refusal.
 // Rejected: a refused query with a line of numbers; another cell of the record as the start.
-pub fn query_line(query: &[u8], out: &mut [u8]) -> usize
-    requires { length out.old ≡ line_bytes }
-    ensures prefix_len { IsPrefixLen result out.new }
-    ensures put { Put out.old 0 (query_line query.now) out.new result }
+pub fn query_line(query: &[u8]) -> Line
+    ensures { result ≡ query_line query.now }
 {
     let mut entry = [0u8; RECORD_BYTES];
-    let o = catalogue::synthesize(query, &mut entry);
-    match o {
-        Outcome::Refused(r) => refusal_line(r, out),
-        Outcome::Done => record_line(&entry, out),
+    match catalogue::synthesize(query, &mut entry) {
+        Ok(()) => record_line(&entry),
+        Err(r) => refusal_line(r),
     }
 }
 
 // The listing's line of a register that is reported for a sequence, or its refusal.
 // Rejected: the count as the start; the cells of b.
-pub fn reported_line(s: Sequence, r: Reported, a: &[u8], out: &mut [u8]) -> usize
-    requires { (length a.now ≡ a_bytes) × (length out.old ≡ line_bytes) }
-    ensures prefix_len { IsPrefixLen result out.new }
-    ensures put { Put out.old 0 (reported_line s r a.now) out.new result }
+pub fn reported_line(s: &Sequence, r: Result<Report, Refusal>, a: &[u8]) -> Line
+    requires { length a.now ≡ a_bytes }
+    ensures { result ≡ reported_line s.now r a.now }
 {
     match r {
-        Reported::Refused(why) => refusal_line(why, out),
-        Reported::Length(l, _) => register_line(s.modulus, s.count, l, a, out),
+        Ok(report) => register_line(s.modulus, s.count, report.length, a),
+        Err(why) => refusal_line(why),
     }
 }
 
 // Whether a register is the only one, in words; the line may go on.
-pub fn uniqueness_text(w: Uniqueness, out: &mut [u8]) -> usize
-    requires { length out.old ≡ line_bytes }
-    ensures prefix_len { IsPrefixLen result out.new }
-    ensures put { Put out.old 0 (uniqueness_text w) out.new result }
-    ensures upper_bound { result ≤ 8 }
+pub fn uniqueness_text(w: Uniqueness) -> Line
+    ensures text { result ≡ uniqueness_text w }
+    ensures upper_bound { length result ≤ 8 }
 {
     match w {
-        Uniqueness::Sole => put(b"sole", out, 0),
-        Uniqueness::Several => put(b"several", out, 0),
-        Uniqueness::NotTold => put(b"not told", out, 0),
+        Uniqueness::Sole => Line::of(b"sole"),
+        Uniqueness::Several => Line::of(b"several"),
+        Uniqueness::NotTold => Line::of(b"not told"),
     }
 }
 
 // The line below that of a register that is reported, in a working; none below a refusal.
-pub fn uniqueness_line(r: Reported, out: &mut [u8]) -> usize
-    requires { length out.old ≡ line_bytes }
-    ensures prefix_len { IsPrefixLen result out.new }
-    ensures put { Put out.old 0 (uniqueness_line r) out.new result }
+pub fn uniqueness_line(r: Result<Report, Refusal>) -> Line
+    ensures { result ≡ uniqueness_line r }
 {
     match r {
-        Reported::Refused(_) => 0,
-        Reported::Length(_, w) => {
-            let end = uniqueness_text(w, out);
-            put(b"\n", out, end)
+        Ok(report) => {
+            let mut line = uniqueness_text(report.uniqueness);
+            line.text(b"\n");
+            line
         }
+        Err(_) => Line::new(),
     }
 }
 
 // The line that answers a typed line.
 // Rejected: a refused line answered as a query; the query of another line.
-pub fn typed_line(line: &[u8], out: &mut [u8]) -> usize
-    requires { length out.old ≡ line_bytes }
-    ensures prefix_len { IsPrefixLen result out.new }
-    ensures put { Put out.old 0 (typed_line line.now) out.new result }
+pub fn typed_line(line: &[u8]) -> Line
+    ensures { result ≡ typed_line line.now }
 {
     let mut query = [0u8; QUERY_BYTES];
-    let o = lines::read_line(line, &mut query);
-    match o {
-        Outcome::Refused(r) => refusal_line(r, out),
-        Outcome::Done => query_line(&query, out),
+    match lines::read_line(line, &mut query) {
+        Ok(()) => query_line(&query),
+        Err(r) => refusal_line(r),
     }
 }
 
 // The census's first line.
-pub fn census_header(out: &mut [u8]) -> usize
-    requires { length out.old ≡ line_bytes }
-    ensures prefix_len { IsPrefixLen result out.new }
-    ensures put { Put out.old 0 census_header out.new result }
+pub fn census_header() -> Line
+    ensures { result ≡ census_header }
 {
-    put(b"modulus count tally\n", out, 0)
+    Line::of(b"modulus count tally\n")
 }
 
 // The census's line of a tally: modulus, count, and the cells of the lengths that there are, 0 to n.
-fn tally_line(m: u32, n: u32, cells: &[u8], out: &mut [u8]) -> usize
-    requires { (n < lengths) × (length cells.now ≡ tally_bytes) × (length out.old ≡ line_bytes) }
-    ensures prefix_len { IsPrefixLen result out.new }
-    ensures put { Put out.old 0 (tally_line m n cells.now) out.new result }
+#[tactic(auto, using(crate::proofs::Tallies::cells_told), unfolding(lists::specs::Text::bytes))]
+fn tally_line(m: u32, n: u32, cells: &[u8]) -> Line
+    requires { (n < lengths) × (length cells.now ≡ tally_bytes) }
+    ensures { result ≡ tally_line m n cells.now }
 {
-    let pair = put_pair(m, n, out);
-    let place = put(b" ", out, pair);
-    let end = put_cells(cells, n + 1, out, place);
-    put(b"\n", out, end)
+    row(&[m, n], cells, n + 1)
 }
 
 // The census's line of a modulus and a count, or its refusal.
 // Rejected: all thirteen cells of a tally; the cell of the length n left out; modulus and count exchanged.
-fn census_line(m: u32, n: u32, out: &mut [u8]) -> usize
-    requires { length out.old ≡ line_bytes }
-    ensures prefix_len { IsPrefixLen result out.new }
-    ensures put { Put out.old 0 (census_line m n) out.new result }
+fn census_line(m: u32, n: u32) -> Line
+    ensures { result ≡ census_line m n }
 {
     let mut cells = [0u8; TALLY_BYTES];
-    let o = enumeration::tally(m, n, &mut cells);
-    match o {
-        Outcome::Refused(r) => refusal_line(r, out),
-        Outcome::Done => tally_line(m, n, &cells, out),
+    match enumeration::tally(m, n, &mut cells) {
+        Ok(()) => tally_line(m, n, &cells),
+        Err(r) => refusal_line(r),
     }
 }
 
-// A value with one more digit.
-fn grown(value: u64, b: u8) -> u64
-    requires { (value < number_limit) × (is_digit b ≡ true) }
-    ensures { result ≡ 10 * value + (b - 48) }
-{
-    10 * value + (b - b'0') as u64
-}
-
-// One digit or more. Reading stops at the first with which the value is not below 2^32, so that it fits however many follow.
-fn read_number(s: &[u8]) -> Number
+// A number below 2^32 of one digit or more, or none. Reading stops at the first digit with which it is too large, so that it fits however many
+// follow.
+fn read_number(s: &[u8]) -> Option<u32>
     ensures { result ≡ number_of s.now }
 {
-    if s.len() == 0 {
-        return Number::NoNumber;
+    if s.is_empty() {
+        return None;
     }
-    let mut value: u64 = 0;
-    let mut place: usize = 0;
-    while place < s.len() {
-        let b = s[place];
-        if !lines::is_digit(b) {
-            return Number::NoNumber;
+    let mut value: u32 = 0;
+    for b in s {
+        if !lines::is_digit(*b) {
+            return None;
         }
-        value = grown(value, b);
-        if NUMBER_LIMIT <= value {
-            return Number::NoNumber;
+        match u32::try_from(10 * u64::from(value) + u64::from(*b - b'0')) {
+            Ok(more) => value = more,
+            Err(_) => return None,
         }
-        place += 1;
     }
-    Number::Value(value as u32)
+    Some(value)
 }
 
-// The place of the first blank; the length where there is none.
-fn blank_in(line: &[u8]) -> usize
-    ensures { result ≡ blank_in line.now }
+// The place of the first blank.
+fn first_blank(line: &[u8]) -> Option<usize>
+    ensures { result ≡ position (λ b. b == 32) line.now }
 {
-    let mut place: usize = 0;
-    while place < line.len() {
-        if line[place] == b' ' {
-            return place;
-        }
-        place += 1;
-    }
-    place
+    line.iter().position(|b| *b == b' ')
 }
 
-// Both numbers, or no pair.
-fn pair_of(first: Number, second: Number) -> Pair
-    ensures { result ≡ pair_of first second }
-{
-    match first {
-        Number::NoNumber => Pair::NoPair,
-        Number::Value(m) => match second {
-            Number::NoNumber => Pair::NoPair,
-            Number::Value(n) => Pair::Numbers(m, n),
-        },
-    }
-}
-
-// The number before the first blank and the number behind it.
-fn read_pair(line: &[u8]) -> Pair
+// What a typed line of the census says: a modulus before the first blank and a count behind it, or neither.
+fn read_pair(line: &[u8]) -> Option<(u32, u32)>
     ensures { result ≡ pair_in line.now }
 {
-    let k = blank_in(line);
-    if line.len() <= k {
-        return Pair::NoPair;
-    }
-    let first = read_number(&line[..k]);
-    let second = read_number(&line[k + 1..]);
-    pair_of(first, second)
+    let k = first_blank(line)?;
+    let modulus = read_number(&line[..k])?;
+    let count = read_number(&line[k + 1..])?;
+    Some((modulus, count))
 }
 
 // The census's last line, where a typed line is not a modulus and a count.
-pub fn no_pair_line(out: &mut [u8]) -> usize
-    requires { length out.old ≡ line_bytes }
-    ensures prefix_len { IsPrefixLen result out.new }
-    ensures put { Put out.old 0 no_pair_line out.new result }
+pub fn no_pair_line() -> Line
+    ensures { result ≡ no_pair_line }
 {
-    put(b"not a modulus and a count\n", out, 0)
+    Line::of(b"not a modulus and a count\n")
 }
 
 // The census's line that answers a typed line, and whether the census goes on.
 // Rejected: going on after a line that is not a modulus and a count; ending at a pair that is refused; two blanks taken for one.
-pub fn pair_line(line: &[u8], out: &mut [u8]) -> Answered
-    requires { length out.old ≡ line_bytes }
-    ensures prefix_len { IsPrefixLen result.end out.new }
-    ensures put { Put out.old 0 (pair_line line.now) out.new result.end }
+pub fn pair_line(line: &[u8]) -> Answered
+    ensures line_value { result.line ≡ pair_line line.now }
     ensures going_value { result.going ≡ is_pair (pair_in line.now) }
 {
-    let p = read_pair(line);
-    match p {
-        Pair::Numbers(m, n) => {
-            let end = census_line(m, n, out);
-            Answered { end, going: true }
-        }
-        Pair::NoPair => {
-            let end = no_pair_line(out);
-            Answered { end, going: false }
-        }
+    match read_pair(line) {
+        Some((m, n)) => Answered {
+            line: census_line(m, n),
+            going: true,
+        },
+        None => Answered {
+            line: no_pair_line(),
+            going: false,
+        },
     }
 }

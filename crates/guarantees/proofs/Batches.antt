@@ -18,18 +18,19 @@ use Rattle.sequence.specs.Rules.{check_of}
 use Rattle.catalogue.specs.Rules.{record_bytes, body, record_at, look_up_of, LookedUp}
 use Rattle.codes.specs.Codes.{counts_code_of}
 use Rattle.batch.specs.declared.Batch.{Batch}
-use Rattle.batch.specs.Rules.{max_queries, query_at, queries_in, alone_of, part_of, reply_code, is_found, is_made, is_refused, lengths_fit, refused_by, refused_whole, look_up_batch_of, end_to_end, batched_in, outcome_of}
+use Rattle.batch.specs.Rules.{max_queries, query_at, queries_in, alone_of, part_of, reply_code, is_found, is_made, is_refused, lengths_fit, refused_by, refused_whole, look_up_batch_of, end_to_end, outcome_of, count_kind}
 use Rattle.batch.specs.Walk.{held_of, held_part, Holding}
 use Rattle.batch.proofs.Whole.{fits_out, fits_replies, fits_whole, reply_by_lem, answer_told, counts_small}
 use Rattle.batch.proofs.Holding.{match_is, is_match, none_is, is_none, held_refused, held_accepted}
 use Rattle.batch.proofs.Parts.{zero_is}
 use Rattle.batch.proofs.Counting.{all_counted}
-use Rattle.batch.proofs.Laws.{outcome_is, alone_lent, alone_code, part_served, part_zeros, query_size, part_at, parts_long, reply_at, replies_long, counts_are, counts_code, kind_counted, batch_same, answers_same, replies_same, records_same}
+use Rattle.batch.proofs.Laws.{outcome_is, alone_lent, alone_code, part_served, part_zeros, query_size, part_at, parts_long, reply_at, replies_long, counts_are, counts_code, kind_counted, batch_same, answers_same, replies_same, records_same, filled_by}
 use Rattle.guarantees.specs.Claims.{MadeServedReported, Same, MadeCatalogue, AgreesWith}
 use Rattle.guarantees.specs.Visitors.{SameButNumbers, served_from}
 use Rattle.guarantees.specs.Batches.{records_after, Fitting, BatchReason, EveryOutcome, EveryQuery, HeldFor, Walked, Counted, BatchAlike, BatchSame, TheBatches}
 use Rattle.guarantees.proofs.Records.{same}
 use Rattle.sequence.specs.Answers.{Outcome}
+use Rattle.sequence.specs.Report.{filled}
 
 -- ---- when each refusal is given
 
@@ -78,9 +79,9 @@ module _ (queries catalogue out replies : List ℕ) where
         reason = subst (BatchReason queries catalogue out replies) (sym (outcome_is queries catalogue out replies)) reason_of;
         exactly = λ o h. outcome_is queries catalogue out replies ∙ exactly_of o h;
         by_number = answer_told queries catalogue out replies;
-        records_kept = λ who r e. ap (λ (o : Outcome). batched_in o (end_to_end (queries_in queries) (λ i. part_of who (query_at queries i) catalogue)) out) e;
+        records_kept = λ who r e. filled_by (look_up_batch_of queries catalogue out replies) _ _ ∙ ap (λ (o : Outcome). filled o (end_to_end (queries_in queries) (λ i. part_of who (query_at queries i) catalogue)) out) e;
         none_counted = λ r e. reply_by_lem queries catalogue out replies (Err r) (sym (outcome_is queries catalogue out replies) ∙ e);
-        replies_kept = λ r e. ap (λ (o : Outcome). batched_in o (tabulate (queries_in queries) (λ i. reply_code (alone_of (query_at queries i) catalogue))) replies) e;
+        replies_kept = λ r e. filled_by (look_up_batch_of queries catalogue out replies) _ _ ∙ ap (λ (o : Outcome). filled o (tabulate (queries_in queries) (λ i. reply_code (alone_of (query_at queries i) catalogue))) replies) e;
       }
 
 -- ---- each query
@@ -106,18 +107,17 @@ module _ (queries catalogue out replies : List ℕ) (done : outcome_of (look_up_
   counted lent l =
       let are = counts_are queries catalogue out replies done in
       let code = counts_code queries catalogue out replies done in
-      let found = ap (λ (b : Batch). b.found) are in
-      let made = ap (λ (b : Batch). b.made) are in
-      let refused = ap (λ (b : Batch). b.refused) are in
-      let small = counts_small queries catalogue out replies refl in
+      let small = counts_small queries catalogue out replies (sym are) in
       record {
-        found = found ∙ kind_counted is_found queries catalogue lent l;
-        made = made ∙ kind_counted is_made queries catalogue lent l;
-        refused = refused ∙ kind_counted is_refused queries catalogue lent l;
-        all = omega (arith, found, made, refused, all_counted queries catalogue);
-        found_byte = omega (arith, code, found, made, refused, small);
-        made_byte = omega (arith, code, found, made, refused, small);
-        refused_byte = omega (arith, code, found, made, refused, small);
+        counts = record { found = count_kind is_found queries catalogue; made = count_kind is_made queries catalogue; refused = count_kind is_refused queries catalogue };
+        replied = are;
+        found = kind_counted is_found queries catalogue lent l;
+        made = kind_counted is_made queries catalogue lent l;
+        refused = kind_counted is_refused queries catalogue lent l;
+        all = all_counted queries catalogue;
+        found_byte = omega (arith, code, small);
+        made_byte = omega (arith, code, small);
+        refused_byte = omega (arith, code, small);
         no_refusal = omega (arith, code);
       }
 
@@ -187,8 +187,8 @@ module _
     not_refused r e = go alone_same.served
       where
         go : ((k : ℕ) × (look_up_of (query_at queries i) catalogue lent ≡ Ok (Some k))) ⊎ (look_up_of (query_at queries i) catalogue lent ≡ Ok None) → ⊥
-        go (inl (k, f)) = let q : Ok (Some k) ≡ Err r = sym f ∙ e in let z : ◌≡◌ {A = ℕ} 0 1 = cc in absurd (omega arith)
-        go (inr f) = let q : (Ok None) ≡ Err r = sym f ∙ e in let z : ◌≡◌ {A = ℕ} 0 1 = cc in absurd (omega arith)
+        go (inl (k, f)) = let q : ◌≡◌ {A = LookedUp} (Ok (Some k)) (Err r) = sym f ∙ e in let z : ◌≡◌ {A = ℕ} 0 1 = cc in absurd (omega arith)
+        go (inr f) = let q : ◌≡◌ {A = LookedUp} (Ok None) (Err r) = sym f ∙ e in let z : ◌≡◌ {A = ℕ} 0 1 = cc in absurd (omega arith)
 
     served : record_at (records_after who queries catalogue out replies) i ≡ served_from who (query_at queries i) catalogue lent
     served = part_at queries catalogue out replies done who i h ∙ part_served who (query_at queries i) catalogue lent l not_refused

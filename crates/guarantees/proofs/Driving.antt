@@ -10,7 +10,7 @@ use lib.Seq.{take-suc, take_all}
 use Rattle.lists.specs.Table.{at}
 use Rattle.sequence.specs.declared.Sequence.{Sequence}
 use Rattle.sequence.specs.Limits.{max_modulus, a_bytes, b_bytes, profile_bytes}
-use Rattle.sequence.specs.Rules.{open_of, push_of, Pushed}
+use Rattle.sequence.specs.Rules.{open_of, push_of}
 use Rattle.sequence.specs.Report.{report_of, a_buffer, b_buffer, profile_of, profile_buffer, filled}
 use Rattle.column.specs.declared.PushedAll.{PushedAll}
 use Rattle.column.specs.Rules.{push_all_of}
@@ -58,11 +58,11 @@ module _ (s : Sequence) (code : ℕ) (list a b cells : List ℕ) where
 
   -- a push
   pub pushes :
-      (p : Pushed) → (code ≡ 0 → ⊥) → (code ≡ 1 → ⊥) → (code ≡ 2 → ⊥) → p ≡ push_of s (code - 3)
-      → state_of p.sequence a b cells ≡ after_code list (state_of s a b cells) code
+      (s' : Sequence) → (code ≡ 0 → ⊥) → (code ≡ 1 → ⊥) → (code ≡ 2 → ⊥) → s' ≡ (push_of s (code - 3)).sequence
+      → state_of s' a b cells ≡ after_code list (state_of s a b cells) code
   unfolding after_code
-  pushes p h k l hp =
-      coded (suc (suc (suc (code - 3)))) (ap (λ (q : Pushed). state_of q.sequence a b cells) hp) (omega arith)
+  pushes s' h k l hp =
+      coded (suc (suc (suc (code - 3)))) (ap (λ (q : Sequence). state_of q a b cells) hp) (omega arith)
 
 -- ---- the list of calls
 

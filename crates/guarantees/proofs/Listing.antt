@@ -5,7 +5,7 @@ use mathlib.Core.List.{List}
 use Prim.Native.Nat.{ℕ, zero, suc, ◌≤◌}
 use native.Mathlib.Omega.{arith}
 use lib.ListN.{length}
-use Rattle.std.specs.Prelude.{Err}
+use Rattle.std.specs.Prelude.{Err, Ok}
 use Rattle.lists.specs.Table.{at}
 use Rattle.lists.proofs.Table.{at_tabulate_all}
 use Rattle.cells.specs.Cell.{cell_at}
@@ -73,7 +73,7 @@ every_order m low high calls a b ha hb =
     (ordered m low high (taken m calls) (good m low high calls) a b ha hb)
 
 told : Reported → ℕ
-told (of_length l w) = l
+told (Ok x) = x.length
 told (Err r) = zero
 
 pub the_listing : TheListing

@@ -267,12 +267,12 @@ module _ (x y query : List ℕ) where
   exactly_told o (first_buffer h e) = rw (ne_eqb (length x) query_bytes h) (sym e)
   exactly_told o (second_buffer h e) = rw (ne_eqb (length y) query_bytes h) (go (eqb (length x) query_bytes) ∙ sym e)
     where
-      go : (a : Bool) → pick a (Err R.Buffer) (Err R.Buffer) ≡ Err R.Buffer
+      go : (a : Bool) → ◌≡◌ {A = Outcome} (pick a (Err R.Buffer) (Err R.Buffer)) (Err R.Buffer)
       go true = refl
       go false = refl
   exactly_told o (query_buffer h e) = rw (ne_eqb (length query) query_bytes h) (go (eqb (length x) query_bytes) (eqb (length y) query_bytes) ∙ sym e)
     where
-      go : (a b : Bool) → pick a (pick b (Err R.Buffer) (Err R.Buffer)) (Err R.Buffer) ≡ Err R.Buffer
+      go : (a b : Bool) → ◌≡◌ {A = Outcome} (pick a (pick b (Err R.Buffer) (Err R.Buffer)) (Err R.Buffer)) (Err R.Buffer)
       go true true = refl
       go true false = refl
       go false b = refl

@@ -170,7 +170,7 @@ looked_up query catalogue out =
         go : LookUpRefused query catalogue out (R.Term i) → (length out ≡ record_bytes) × (check_of query ≡ Err (R.Term i))
         go h = (h.size, from h.source)
           where
-            from : (check_of query ≡ Err (R.Term i)) ⊎ ((Err R.Catalogue ≡ Err (R.Term i)) ⊎ (Err R.Record ≡ Err (R.Term i))) → check_of query ≡ Err (R.Term i)
+            from : (check_of query ≡ Err (R.Term i)) ⊎ (◌≡◌ {A = Outcome} (Err R.Catalogue) (Err (R.Term i)) ⊎ ◌≡◌ {A = Outcome} (Err R.Record) (Err (R.Term i))) → check_of query ≡ Err (R.Term i)
             from (inl k) = k
             from (inr (inl k)) = absurd (omega (arith, same_number k))
             from (inr (inr k)) = absurd (omega (arith, same_number k))
@@ -304,7 +304,7 @@ never query catalogue out = go
         → look_up_of query catalogue out ≡ Err r → ⊥
     from r n no_23 no_24 e = of (look_up_refused query catalogue out e (λ k. omega (arith, n, k))).source
       where
-        of : (check_of query ≡ Err r) ⊎ ((Err R.Catalogue ≡ Err r) ⊎ (Err R.Record ≡ Err r)) → ⊥
+        of : (check_of query ≡ Err r) ⊎ (◌≡◌ {A = Outcome} (Err R.Catalogue) (Err r) ⊎ ◌≡◌ {A = Outcome} (Err R.Record) (Err r)) → ⊥
         of (inl k) = omega (arith, n, check_small query k)
         of (inr (inl k)) = no_23 (same_number k)
         of (inr (inr k)) = no_24 (same_number k)

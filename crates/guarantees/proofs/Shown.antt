@@ -71,7 +71,7 @@ module _ (query : List ℕ) (fine : check_of query ≡ Ok tt) where
         ∙ shown.last ∙ ap (profile_cell m calls cells) long
       where
         told : Reported → ℕ
-        told (of_length l w) = l
+        told (Ok x) = x.length
         told (Err r) = zero
 
   -- so it is the least length of them all

@@ -13,6 +13,7 @@ use Rattle.sequence.specs.Rules.{check_of}
 use Rattle.sequence.specs.Report.{filled}
 use Rattle.catalogue.specs.Rules.{record_bytes, body, record_of, synthesize_of, record_at, is_of, look_up_of, look_up_answer, editor, seen_by}
 use Rattle.codes.specs.Codes.{code_of, counts_code_of}
+use Rattle.batch.specs.declared.Batch.{Batch}
 use Rattle.batch.specs.Rules.{max_queries, query_at, queries_in, is_found, is_made, is_refused, look_up_batch_of, batch_answer, look_up_batch_answer, parts_in, replies_in, outcome_of}
 use Rattle.batch.specs.Walk.{Holding}
 use Rattle.guarantees.specs.Calls.{Call, taken}
@@ -49,14 +50,14 @@ pub data BatchReason (queries catalogue out replies : List ℕ) (o : Outcome) : 
 
 pub record EveryOutcome (queries catalogue out replies : List ℕ) : Type 0 where
   -- what is replied has its reason, and what has a reason is replied
-  pub reason : BatchReason queries catalogue out replies outcome_of (look_up_batch_of queries catalogue out replies)
+  pub reason : BatchReason queries catalogue out replies (outcome_of (look_up_batch_of queries catalogue out replies))
   pub exactly : (o : Outcome) → BatchReason queries catalogue out replies o → outcome_of (look_up_batch_of queries catalogue out replies) ≡ o
   -- by number it is the answer that the calls promise, for C too
   pub by_number : batch_answer (look_up_batch_of queries catalogue out replies) ≡ look_up_batch_answer queries catalogue out replies
   -- where the whole call is refused, the records and the replies are as lent
   pub records_kept : (who : ℕ) (r : Refusal) → outcome_of (look_up_batch_of queries catalogue out replies) ≡ Err r → records_after who queries catalogue out replies ≡ out
   pub replies_kept : (r : Refusal) → outcome_of (look_up_batch_of queries catalogue out replies) ≡ Err r → replies_after queries catalogue out replies ≡ replies
-  -- and nothing is counted
+  -- and there are no counts
   pub none_counted :
       (r : Refusal) → outcome_of (look_up_batch_of queries catalogue out replies) ≡ Err r
       → look_up_batch_of queries catalogue out replies ≡ Err r
@@ -111,16 +112,16 @@ Walked who queries catalogue j out replies =
 
 -- Each query is counted once, by what it gets alone with any record lent; 24 is a refusal.
 pub record Counted (queries catalogue out replies lent : List ℕ) : Type 0 where
-  pub found : (look_up_batch_of queries catalogue out replies).found ≡ sum_to (queries_in queries) (λ i. is_found (look_up_of (query_at queries i) catalogue lent))
-  pub made : (look_up_batch_of queries catalogue out replies).made ≡ sum_to (queries_in queries) (λ i. is_made (look_up_of (query_at queries i) catalogue lent))
-  pub refused : (look_up_batch_of queries catalogue out replies).refused ≡ sum_to (queries_in queries) (λ i. is_refused (look_up_of (query_at queries i) catalogue lent))
-  pub all :
-      (look_up_batch_of queries catalogue out replies).found + (look_up_batch_of queries catalogue out replies).made + (look_up_batch_of queries catalogue out replies).refused
-      ≡ queries_in queries
+  pub counts : Batch
+  pub replied : look_up_batch_of queries catalogue out replies ≡ Ok counts
+  pub found : counts.found ≡ sum_to (queries_in queries) (λ i. is_found (look_up_of (query_at queries i) catalogue lent))
+  pub made : counts.made ≡ sum_to (queries_in queries) (λ i. is_made (look_up_of (query_at queries i) catalogue lent))
+  pub refused : counts.refused ≡ sum_to (queries_in queries) (λ i. is_refused (look_up_of (query_at queries i) catalogue lent))
+  pub all : counts.found + counts.made + counts.refused ≡ queries_in queries
   -- and so C reads them off the value, a byte each
-  pub found_byte : counts_code_of (look_up_batch_answer queries catalogue out replies) / 256 % 256 ≡ (look_up_batch_of queries catalogue out replies).found
-  pub made_byte : counts_code_of (look_up_batch_answer queries catalogue out replies) / 65536 % 256 ≡ (look_up_batch_of queries catalogue out replies).made
-  pub refused_byte : counts_code_of (look_up_batch_answer queries catalogue out replies) / 16777216 ≡ (look_up_batch_of queries catalogue out replies).refused
+  pub found_byte : counts_code_of (look_up_batch_answer queries catalogue out replies) / 256 % 256 ≡ counts.found
+  pub made_byte : counts_code_of (look_up_batch_answer queries catalogue out replies) / 65536 % 256 ≡ counts.made
+  pub refused_byte : counts_code_of (look_up_batch_answer queries catalogue out replies) / 16777216 ≡ counts.refused
   pub no_refusal : counts_code_of (look_up_batch_answer queries catalogue out replies) % 256 ≡ 0
 
 -- ---- what holds of looking up

@@ -11,42 +11,34 @@ ghost use Rattle.guarantees.specs.Batches.{Walked};
 ghost use Rattle.guarantees.specs.Claims.{Shows};
 ghost use Rattle.guarantees.specs.Coded.{taken_by, state_of, after_code, driven_to, replies_of, ended};
 
-use sequence::{Outcome, Reported, Sequence};
+use sequence::{Refusal, Report, Sequence};
 
 // What the last register and the last profile reply.
 #[derive(Clone, Copy)]
 pub struct Replies {
-    pub reported: Reported,
-    pub profiled: Outcome,
+    pub reported: Result<Report, Refusal>,
+    pub profiled: Result<(), Refusal>,
 }
 
-// One call, coded as a number: 0 is a register, 1 a profile, 2 a column of the list, n + 3 a push of n.
+// One call, coded as a number: 0 is a register, 1 a profile, 2 a column of the list, n + 3 a push of n. Whether it is refused is not asked.
 // Rejected: a register that is lent b as a and a as b.
-fn one(
-    s: Sequence,
-    code: u32,
-    list: &[u8],
-    a: &mut [u8],
-    b: &mut [u8],
-    cells: &mut [u8],
-) -> Sequence
-    ensures { state_of result a.new b.new cells.new
-        ≡ after_code list.now (state_of s a.old b.old cells.old) code }
+fn one(s: &mut Sequence, code: u32, list: &[u8], a: &mut [u8], b: &mut [u8], cells: &mut [u8])
+    ensures { state_of s.new a.new b.new cells.new
+        ≡ after_code list.now (state_of s.old a.old b.old cells.old) code }
 {
     if code == 0 {
-        sequence::register(s, a, b);
-        return s;
+        let _ = s.register(a, b);
+        return;
     }
     if code == 1 {
-        sequence::profile(s, cells);
-        return s;
+        let _ = s.profile(cells);
+        return;
     }
     if code == 2 {
-        let c = column::push_all(s, list);
-        return c.sequence;
+        *s = column::push_all(*s, list).sequence;
+        return;
     }
-    let p = sequence::push(s, code - 3);
-    p.sequence
+    let _ = s.push(code - 3);
 }
 
 // Opens a sequence, makes the coded calls one after the other, each column with the lent list, then a register and a profile.
@@ -70,19 +62,13 @@ pub fn drive(
         → length cells.old ≡ profile_bytes
         → Shows modulus (taken_by modulus list.now codes.now) result.reported result.profiled a.new b.new cells.new }
 {
-    let o = sequence::open(modulus);
-    let mut s = o.sequence;
-    let mut i: usize = 0;
-    while i < codes.len() {
-        s = one(s, codes[i], list, a, b, cells);
-        i += 1;
+    let mut s = Sequence::open(modulus).sequence;
+    for &code in codes {
+        one(&mut s, code, list, a, b, cells);
     }
-    let reported = sequence::register(s, a, b);
-    let profiled = sequence::profile(s, cells);
-    Replies {
-        reported: reported,
-        profiled: profiled,
-    }
+    let reported = s.register(a, b);
+    let profiled = s.profile(cells);
+    Replies { reported, profiled }
 }
 
 // The walk of a batch along the first n records of a catalogue, for every n: then each query that passes its checks holds the first match among them, or

@@ -3,3 +3,4 @@ pub mod Replies
 pub mod Pieces
 pub mod Turns
 pub mod Filling
+pub mod Each

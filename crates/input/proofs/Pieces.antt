@@ -1,16 +1,21 @@
 -- What a chunk still has, before and after a line has taken its part.
 -- Assumes nothing.
 use mathlib.Core.Path.{◌≡◌, refl, sym, ap, ap₂, ◌∙◌, subst}
-use mathlib.Core.Bool.{Bool, true, false}
+use mathlib.Core.Bool.{Bool, true, false, cond}
 use mathlib.Core.List.{List, [], ◌∷◌, ◌++◌, append-nil}
 use Prim.Native.Nat.{ℕ, zero, suc, ◌+◌, ◌-◌, ◌≤◌, ◌<◌}
 use native.Mathlib.Omega.{arith}
-use lib.Dec.{leb, ltb}
+use lib.Dec.{eqb, leb, ltb}
 use lib.ListN.{length, take, drop, drop_of_length-le}
-use lib.Seq.{length-take-le, take-nil, drop-nil, drop-drop}
+use lib.Seq.{length-take-le, take-length, take-nil, drop-nil, drop-drop}
 use borrow.Author.Tests.{le-ltb, le-leb, ltb-true, ltb-false, leb-true}
+use Rattle.std.specs.Prelude.{Some, None}
+use Rattle.std.specs.List.{position, position_or_len}
+use Rattle.std.proofs.lemmas.List.Quantifiers.{position-Some}
+use Rattle.std.proofs.lemmas.List.Sums.{passes_at_first, fails_before_first, prefix_len-le-length}
 use Rattle.lists.specs.Choice.{pick, both}
-use Rattle.lists.proofs.Search.{both_left, both_right, first_le}
+use Rattle.lists.specs.Table.{at}
+use Rattle.lists.proofs.Search.{both_left, both_right, first_le, is_first}
 use Rattle.input.specs.declared.Source.{Source}
 use Rattle.input.specs.Marks.{mark_in, rest_of, piece_of, left_of, is_marked}
 use Rattle.input.specs.Held.{Holds}
@@ -21,6 +26,33 @@ mark_le xs = first_le (length xs) _
 
 pub mark_size : (xs : List ℕ) (r : ℕ) → r ≡ mark_in xs → r ≡ length (take r xs)
 mark_size xs r f = sym (length-take-le r xs (omega (arith, f, mark_le xs)))
+
+-- the first line feed is where it is found
+pub mark_found : (xs : List ℕ) {k : ℕ} → position (λ b. eqb b 10) xs ≡ Some k → (k ≡ mark_in xs) × (k < length xs)
+unfolding mark_in
+mark_found xs {k} e =
+    let found = position-Some (λ b. eqb b 10) xs k 0 e in
+    (is_first (length xs) (λ i. eqb (at xs i) 10) k (omega (arith, found.0)) found.2 (λ h. found.1), found.0)
+
+pub mark_none : (xs : List ℕ) → position (λ b. eqb b 10) xs ≡ None → length xs ≡ mark_in xs
+unfolding mark_in
+mark_none xs e = omega (arith, at_most, past, is)
+  where
+    p : ℕ → Bool
+    p = λ b. eqb b 10
+
+    at_most : position_or_len p xs ≤ length xs
+    at_most = prefix_len-le-length _ xs
+
+    past : length xs ≤ position_or_len p xs
+    past = by_test (ltb (position_or_len p xs) (length xs)) refl e
+      where
+        by_test : (t : Bool) → ltb (position_or_len p xs) (length xs) ≡ t → cond t (Some (position_or_len p xs)) None ≡ None → length xs ≤ position_or_len p xs
+        by_test true f g = absurd (cc)
+        by_test false f g = ltb-false _ _ f
+
+    is : position_or_len p xs ≡ mark_in xs
+    is = is_first (length xs) (λ i. p (at xs i)) (position_or_len p xs) at_most (λ j h. fails_before_first p xs j 0 h) (λ h. passes_at_first p xs 0 h)
 
 -- a part of a part
 drop_take : (k n : ℕ) (xs : List ℕ) → drop k (take n xs) ≡ take (n - k) (drop k xs)
@@ -100,16 +132,18 @@ module _ (s : Source) (chunk : List ℕ) (e : has s (length chunk) ≡ true) whe
       subst (λ (ys : List ℕ). Holds buffer n (xs ++ piece_of ys)) (sym is_part)
       (subst (λ (k : ℕ). Holds buffer n (xs ++ take k part)) f h)
 
+  pub holds_part : {buffer : List ℕ} {n : ℕ} (xs : List ℕ) → length part ≡ mark_in part → Holds buffer n (xs ++ part) → Holds buffer n (xs ++ piece_of (rest_of s chunk))
+  holds_part {buffer} {n} xs f h = holds_piece xs f (subst (λ (ys : List ℕ). Holds buffer n (xs ++ ys)) (sym (take-length part)) h)
+
   pub marked_part : {t : Bool} (r : ℕ) → r ≡ mark_in part → ltb r (length part) ≡ t → t ≡ is_marked (rest_of s chunk)
   marked_part r f h = sym (ap is_marked is_part ∙ ap (λ (k : ℕ). ltb k (length part)) (sym f) ∙ h)
 
   -- what follows a line feed is left
-  pub left_after : (s' : Source) (r : ℕ) → r ≡ mark_in part → s'.end ≡ s.end → s'.from ≡ s.from + r + 1 → rest_of s' chunk ≡ left_of (rest_of s chunk)
+  pub left_after : (s' : Source) (r : ℕ) → r ≡ mark_in part → s'.end ≡ s.end → s'.from ≡ s.from + (r + 1) → rest_of s' chunk ≡ left_of (rest_of s chunk)
   left_after s' r f g h =
       let inside : s'.end ≤ length chunk = omega (arith, g, (has_some s (length chunk) e).1) in
       let size : s'.end - s'.from ≡ s.end - s.from - (r + 1) = omega (arith, g, h) in
-      let place : s'.from ≡ s.from + (r + 1) = omega (arith, h) in
-      rest_part s' chunk inside ∙ ap₂ (λ (n k : ℕ). take n (drop k chunk)) size place
+      rest_part s' chunk inside ∙ ap₂ (λ (n k : ℕ). take n (drop k chunk)) size h
       ∙ ap (take (s.end - s.from - (r + 1))) (sym (drop-drop (r + 1) s.from chunk)) ∙ sym (drop_take (r + 1) (s.end - s.from) (drop s.from chunk))
       ∙ ap (λ (k : ℕ). drop (k + 1) part) f ∙ ap left_of (sym is_part)
 

@@ -1,42 +1,22 @@
 -- How long a line is, and that the reply of the bytes held is that of the line.
 -- Assumes nothing.
-use mathlib.Core.Path.{◌≡◌, refl, sym, ap, ap₂, ◌∙◌, subst}
+use mathlib.Core.Path.{◌≡◌, refl, sym, ap, ap₂, ◌∙◌}
 use mathlib.Core.Bool.{Bool, true, false, not}
 use mathlib.Core.List.{List}
 use Prim.Native.Nat.{ℕ, ◌+◌, ◌-◌, ◌≤◌, ◌<◌}
 use native.Mathlib.Omega.{arith}
 use lib.Dec.{eqb, ltb}
 use lib.ListN.{length, take}
-use lib.Seq.{ext_get_or, get_or-take, length-take-le}
+use lib.Seq.{length-take-le}
 use borrow.Author.Tests.{lt-ltb, le-ltb, eq-eqb, ne_eqb, eqb-true, eqb-false}
 use Rattle.lists.specs.Choice.{pick, both}
 use Rattle.lists.specs.Table.{at}
-use Rattle.input.specs.declared.Taken.{Taken}
 use Rattle.input.specs.declared.Taken.TheVariants.{Line, TooLong, Ended}
 use Rattle.input.specs.Marks.{longest, length_of}
-use Rattle.input.specs.Held.{Holds, taken_of, within}
+use Rattle.input.specs.Held.{Holds, taken_of}
+use Rattle.input.proofs.Holding.{held_all}
 
 -- ---- how long a line is
-
-pub length_unmarked : (xs : List ℕ) (marked : Bool) → marked ≡ false → length xs ≡ length_of xs marked
-length_unmarked xs marked e = sym (ap (length_of xs) e)
-
-pub length_none : (xs : List ℕ) (marked : Bool) → length xs ≡ 0 → length xs ≡ length_of xs marked
-length_none xs marked h = go (both marked (eqb (at xs (length xs - 1)) 13))
-  where
-    go : (t : Bool) → length xs ≡ pick t (length xs - 1) (length xs)
-    go true = omega arith
-    go false = refl
-
-module _ (xs : List ℕ) (marked : Bool) (e : marked ≡ true) where
-  told_by : {t : Bool} → eqb (at xs (length xs - 1)) 13 ≡ t → pick t (length xs - 1) (length xs) ≡ length_of xs marked
-  told_by f = sym (ap₂ (λ (s t : Bool). pick (both s t) (length xs - 1) (length xs)) e f)
-
-  pub length_returned : at xs (length xs - 1) ≡ 13 → length xs - 1 ≡ length_of xs marked
-  length_returned h = told_by (eq-eqb _ 13 h)
-
-  pub length_other : (at xs (length xs - 1) ≡ 13 → ⊥) → length xs ≡ length_of xs marked
-  length_other h = told_by (ne_eqb _ 13 h)
 
 -- at most one byte shorter than the bytes before its end
 pub length_least : (xs : List ℕ) (marked : Bool) → length xs ≤ length_of xs marked + 1
@@ -79,21 +59,9 @@ module _ (buffer : List ℕ) (n : ℕ) (marked : Bool) (xs : List ℕ) (h : Hold
   pub told_long : both (eqb n 0) (not marked) ≡ false → longest < length buffer → length buffer < n → TooLong ≡ taken_of xs marked
   told_long e k l = chosen xs marked (ended e) (lt-ltb longest (length_of xs marked) (omega (arith, h.count, length_least xs marked)))
 
-  -- the bytes held are all of them
-  held_all : n ≤ length buffer → take n buffer ≡ xs
-  held_all k =
-      ext_get_or 0 (take n buffer) xs (size ∙ end)
-      (λ i l. get_or-take n buffer i 0 (omega (arith, size)) ∙ h.bytes i (omega (arith, size, end)) (omega (arith, size)))
-    where
-      end : n ≡ length xs
-      end = omega (arith, h.count)
-
-      size : length (take n buffer) ≡ n
-      size = length-take-le n buffer k
-
   module _ (e : both (eqb n 0) (not marked) ≡ false) (k : n ≤ length buffer) (r : ℕ) (f : r ≡ length_of (take n buffer) marked) where
     whole : r ≡ length_of xs marked
-    whole = f ∙ ap (λ (ys : List ℕ). length_of ys marked) (held_all k)
+    whole = f ∙ ap (λ (ys : List ℕ). length_of ys marked) (held_all buffer n xs h k).1
 
     pub told_longer : longest < r → TooLong ≡ taken_of xs marked
     told_longer l = chosen xs marked (ended e) (lt-ltb longest (length_of xs marked) (omega (arith, whole)))
@@ -108,6 +76,3 @@ told_many xs h = chosen xs false (ap (λ (t : Bool). both t true) (ne_eqb (lengt
 -- a line is within the bytes held
 pub line_fits_lem : (buffer : List ℕ) (n r : ℕ) (marked : Bool) → n ≤ length buffer → r ≡ length_of (take n buffer) marked → r ≤ length buffer
 line_fits_lem buffer n r marked k f = omega (arith, f, length_most (take n buffer) marked, length-take-le n buffer k)
-
-pub line_within : {t : Taken} (n k : ℕ) → t ≡ Line n → within t k → n ≤ k
-line_within n k e h = subst (λ (t : Taken). within t k) e h

@@ -2,11 +2,13 @@
 // gives is used at once, so that a person at a terminal is answered after each line.
 #![tactic(auto)]
 
-ghost use Rattle.std.specs.Prelude.{◌≡◌, true, false, not, List, [], ◌∷◌, ◌++◌, ℕ, ◌≤◌, ◌<◌, eqb, leb, ltb, length, take, IfOk, OnErr};
+ghost use Rattle.std.specs.Prelude.{◌≡◌, ◌==◌, true, false, not, List, [], ◌∷◌, ◌++◌, ℕ, ◌≤◌, ◌<◌, eqb, leb, ltb, length, take, position, IfOk, OnOk, OnErr, MatchOption};
 ghost use Rattle.std.specs.Io.KnownBytes.{Consumes, IsAtEnd, Keeps};
 ghost use Rattle.std.specs.Io.{ReadsAtMost};
 ghost use Rattle.lists.specs.Choice.{both};
 ghost use Rattle.input.specs.Marks.{longest, mark_in, length_of, rest_of, piece_of, left_of, is_marked, is_known};
+ghost use Rattle.input.specs.declared.Taken.TheVariants.{Ended};
+ghost use Rattle.input.specs.Each.{Shows, unread, EachLine, EachBlock};
 ghost use Rattle.input.specs.Held.{Holds, taken_of, within, Told, CutOff, StandsIn};
 
 use std::io;
@@ -37,94 +39,102 @@ pub enum Taken {
     Ended,
 }
 
-#[derive(Clone, Copy)]
-pub struct Turn {
-    pub taken: Taken,
-    pub source: Source,
-}
-
-// What is left after a piece of a line, how many of the line's bytes are held, and whether a line feed ended it.
-#[derive(Clone, Copy)]
-struct Piece {
-    source: Source,
-    held: usize,
-    marked: bool,
-}
-
-// Nothing is read yet.
-pub fn start() -> Source
-    ensures { (result.from ≡ 0) × (result.end ≡ 0) × (result.open ≡ true) }
-{
-    Source {
-        from: 0,
-        end: 0,
-        open: true,
-    }
-}
-
-// The place of the first line feed; the length where there is none.
-fn mark_in(bytes: &[u8]) -> usize
-    ensures { result ≡ mark_in bytes.now }
-{
-    let mut i: usize = 0;
-    while i < bytes.len() {
-        if bytes[i] == b'\n' {
-            return i;
+impl Source {
+    // Nothing is read yet.
+    pub fn new() -> Self
+        ensures { (result.from ≡ 0) × (result.end ≡ 0) × (result.open ≡ true) }
+    {
+        Source {
+            from: 0,
+            end: 0,
+            open: true,
         }
-        i += 1;
     }
-    i
+
+    // Reads once. Where that gives nothing, the input has ended.
+    fn refill<R: Read>(&mut self, reader: &mut R, chunk: &mut [u8]) -> io::Result<()>
+        ensures given { IfOk result (λ _. (self.new.from ≡ 0) × (self.new.end ≤ length chunk.new) × (self.new.open ≡ ltb 0 self.new.end)) }
+        ensures failed { OnErr result (Keeps (R.remaining reader.old) (R.remaining reader.new)) }
+    {
+        let n = reader.read(chunk)?;
+        *self = Source {
+            from: 0,
+            end: n,
+            open: 0 < n,
+        };
+        Ok(())
+    }
+
+    // Whether a chunk of that many bytes has some that are still to be taken.
+    fn has_bytes(&self, size: usize) -> bool
+        ensures { result ≡ both (ltb self.now.from self.now.end) (leb self.now.end size) }
+    {
+        self.from < self.end && self.end <= size
+    }
+
+    // Takes what the chunk still has, up to a line feed, and says whether there was one. A source that is not of this chunk has nothing.
+    fn take_piece(&mut self, chunk: &[u8], line: &mut [u8], held: &mut usize) -> bool
+        ensures by_index { (xs : List ℕ) → Holds line.old held.old xs → Holds line.new held.new (xs ++ piece_of (rest_of self.old chunk.now)) }
+        ensures marked_value { result ≡ is_marked (rest_of self.old chunk.now) }
+        ensures chunk_value { rest_of self.new chunk.now ≡ left_of (rest_of self.old chunk.now) }
+        ensures open_value { self.new.open ≡ self.old.open }
+    {
+        if !self.has_bytes(chunk.len()) {
+            return false;
+        }
+        let bytes = &chunk[self.from..self.end];
+        match first_mark(bytes) {
+            Some(n) => {
+                *held = keep(&bytes[..n], line, *held);
+                self.from += n + 1;
+                true
+            }
+            None => {
+                *held = keep(bytes, line, *held);
+                self.from = self.end;
+                false
+            }
+        }
+    }
 }
 
-// One byte more of a line. Where there is no room for it, the count says so: it is one more than the room.
-fn push(byte: u8, line: &mut [u8], held: usize) -> usize
-    ensures { (xs : List ℕ) → Holds line.old held xs → Holds line.new result (xs ++ byte ∷ []) }
+// The place of the first line feed.
+fn first_mark(bytes: &[u8]) -> Option<usize>
+    ensures { result ≡ position (λ b. b == 10) bytes.now }
 {
-    if held < line.len() {
-        line[held] = byte;
-        return held + 1;
-    }
-    line.len() + 1
+    bytes.iter().position(|b| *b == b'\n')
 }
 
-// Some bytes more of a line.
+// Some bytes more of a line. Where there is no room for all of them, the count says so: it is one more than the room.
 fn keep(bytes: &[u8], line: &mut [u8], held: usize) -> usize
     ensures { (xs : List ℕ) → Holds line.old held xs → Holds line.new result (xs ++ bytes.now) }
 {
-    let mut n = held;
-    let mut i: usize = 0;
-    while i < bytes.len() {
-        n = push(bytes[i], line, n);
-        i += 1;
+    if line.len() < held {
+        return held;
     }
-    n
+    let n = bytes.len().min(line.len() - held);
+    line[held..held + n].copy_from_slice(&bytes[..n]);
+    if n < bytes.len() {
+        return line.len() + 1;
+    }
+    held + n
 }
 
 // How many of the bytes before a line feed, or before the end of the input, are the line's.
 fn length_of(bytes: &[u8], marked: bool) -> usize
     ensures { result ≡ length_of bytes.now marked }
 {
-    let n = bytes.len();
-    if !marked {
-        return n;
+    match bytes {
+        [rest @ .., b'\r'] if marked => rest.len(),
+        _ => bytes.len(),
     }
-    if n == 0 {
-        return n;
-    }
-    if bytes[n - 1] == b'\r' {
-        return n - 1;
-    }
-    n
 }
 
 // No bytes before the end of the input are no line.
 fn is_end(held: usize, marked: bool) -> bool
     ensures { result ≡ both (eqb held 0) (not marked) }
 {
-    if held == 0 {
-        return !marked;
-    }
-    false
+    held == 0 && !marked
 }
 
 // The reply of the bytes held.
@@ -145,96 +155,30 @@ fn taken_of(line: &[u8], held: usize, marked: bool) -> Taken
     Taken::Line(n)
 }
 
-// Reads once. Where that gives nothing, the input has ended.
-fn refill<R: Read>(reader: &mut R, chunk: &mut [u8]) -> io::Result<Source>
-    ensures given { IfOk result (λ s. (s.from ≡ 0) × (s.end ≤ length chunk.new) × (s.open ≡ ltb 0 s.end)) }
-    ensures failed { OnErr result (Keeps (R.remaining reader.old) (R.remaining reader.new)) }
-{
-    let n = reader.read(chunk)?;
-    Ok(Source {
-        from: 0,
-        end: n,
-        open: 0 < n,
-    })
-}
-
-// Whether a chunk of that many bytes has some that are still to be taken.
-fn has_bytes(source: Source, size: usize) -> bool
-    ensures { result ≡ both (ltb source.from source.end) (leb source.end size) }
-{
-    if source.from < source.end {
-        return source.end <= size;
-    }
-    false
-}
-
-// Takes what the chunk still has, up to a line feed. A source that is not of this chunk has nothing.
-fn take_piece(source: Source, chunk: &[u8], line: &mut [u8], held: usize) -> Piece
-    ensures by_index { (xs : List ℕ) → Holds line.old held xs → Holds line.new result.held (xs ++ piece_of (rest_of source chunk.now)) }
-    ensures marked_value { result.marked ≡ is_marked (rest_of source chunk.now) }
-    ensures chunk_value { rest_of result.source chunk.now ≡ left_of (rest_of source chunk.now) }
-    ensures open_value { result.source.open ≡ source.open }
-{
-    if !has_bytes(source, chunk.len()) {
-        return Piece {
-            source,
-            held,
-            marked: false,
-        };
-    }
-    let from = source.from;
-    let end = source.end;
-    let bytes = &chunk[from..end];
-    let n = mark_in(bytes);
-    let more = keep(&bytes[..n], line, held);
-    let mut left = source;
-    if n < bytes.len() {
-        left.from = from + n + 1;
-        return Piece {
-            source: left,
-            held: more,
-            marked: true,
-        };
-    }
-    left.from = end;
-    Piece {
-        source: left,
-        held: more,
-        marked: false,
-    }
-}
-
 // The next line, at the start of `line`, which has LINE_ROOM places. A read that fails is passed on, and nothing else is an error: a line that
 // is at hand never is one. `line` then holds a beginning of the line.
 // Rejected: a line feed in a line; a byte lost that the chunk has at entry, of this line or of a later one; a byte skipped behind a line feed
 // that a read gave; the carriage return of an end mark kept; a line cut short in silence, or the end told, by a source that is still open.
 pub fn next_line<R: Read>(
     reader: &mut R,
-    from: Source,
+    source: &mut Source,
     chunk: &mut [u8],
     line: &mut [u8],
-) -> io::Result<Turn>
-    ensures told { IfOk result (λ t. Told from chunk.old t.taken t.source chunk.new line.new) }
-    ensures chunk_after { IfOk result (λ t. is_known from chunk.old ≡ true → rest_of t.source chunk.new ≡ left_of (rest_of from chunk.old)) }
-    ensures within { IfOk result (λ t. within t.taken (length line.new)) }
-    ensures failed { OnErr result (CutOff from chunk.old line.new) }
+) -> io::Result<Taken>
+    ensures told { IfOk result (λ t. Told source.old chunk.old t source.new chunk.new line.new) }
+    ensures chunk_after { OnOk result (is_known source.old chunk.old ≡ true → rest_of source.new chunk.new ≡ left_of (rest_of source.old chunk.old)) }
+    ensures within { IfOk result (λ t. within t (length line.new)) }
+    ensures failed { OnErr result (CutOff source.old chunk.old line.new) }
 {
-    let mut source = from;
     let mut held: usize = 0;
-    let mut turns = u64::MAX;
-    while turns > 0 {
-        let p = take_piece(source, chunk, line, held);
-        source = p.source;
-        held = p.held;
-        if p.marked || !source.open {
-            let taken = taken_of(line, held, p.marked);
-            return Ok(Turn { taken, source });
+    for _read in 0..u64::MAX {
+        let marked = source.take_piece(chunk, line, &mut held);
+        if marked || !source.open {
+            return Ok(taken_of(line, held, marked));
         }
-        source = refill(reader, chunk)?;
-        turns = turns - 1;
+        source.refill(reader, chunk)?;
     }
-    let taken = Taken::TooLong;
-    Ok(Turn { taken, source })
+    Ok(Taken::TooLong)
 }
 
 // Reads until the buffer is full or the input ends; gives how many bytes stand at its start. A read that fails is passed on, and nothing else
@@ -254,4 +198,68 @@ pub fn read_full<R: Read>(reader: &mut R, buffer: &mut [u8]) -> io::Result<usize
         done += n;
     }
     Ok(done)
+}
+
+// What was typed: a line, or one that is too long.
+pub enum Typed<'a> {
+    Line(&'a [u8]),
+    TooLong,
+}
+
+// What is handed on of a reply; nothing at the end of the input.
+fn typed_of<'a>(taken: Taken, line: &'a [u8]) -> Option<Typed<'a>>
+    requires { within taken (length line.now) }
+    ensures { MatchOption result (taken ≡ Ended) (Shows taken line.now) }
+{
+    match taken {
+        Taken::Line(n) => Some(Typed::Line(&line[..n])),
+        Taken::TooLong => Some(Typed::TooLong),
+        Taken::Ended => None,
+    }
+}
+
+// Hands each line that is typed to the closure as soon as it is read, until the closure says false or the input ends.
+// Rejected: a line passed over, or handed on twice; going on after false; the end told while lines are still to come.
+pub fn each_line<R: Read, F: FnMut(Typed<'_>) -> io::Result<bool>>(
+    reader: &mut R,
+    mut answer: F,
+) -> io::Result<()>
+    requires { F.IsAlwaysCallable answer }
+    ensures { (chunk : List ℕ) × EachLine F.step 18446744073709551615 unread chunk answer result }
+{
+    let mut chunk = [0u8; CHUNK];
+    let mut line = [0u8; LINE_ROOM];
+    let mut source = Source::new();
+    for _line in 0..u64::MAX {
+        let taken = next_line(reader, &mut source, &mut chunk, &mut line)?;
+        match typed_of(taken, &line) {
+            Some(typed) => {
+                if !answer(typed)? {
+                    return Ok(());
+                }
+            }
+            None => return Ok(()),
+        }
+    }
+    Ok(())
+}
+
+// Hands each block that is read to the closure, as many bytes as the buffer has; the last may be shorter.
+// Rejected: the buffer's bytes behind a last block handed on with it; a call's error kept back.
+pub fn each_block<R: Read, F: FnMut(&[u8]) -> io::Result<()>>(
+    reader: &mut R,
+    buffer: &mut [u8],
+    mut answer: F,
+) -> io::Result<()>
+    requires { F.IsAlwaysCallable answer }
+    ensures { EachBlock F.step (length buffer.old) 18446744073709551615 (R.remaining reader.old) answer result (R.remaining reader.new) }
+{
+    for _block in 0..u64::MAX {
+        let n = read_full(reader, buffer)?;
+        if n == 0 {
+            return Ok(());
+        }
+        answer(&buffer[..n])?;
+    }
+    Ok(())
 }

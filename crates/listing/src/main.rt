@@ -5,25 +5,12 @@ use sequence::QUERY_BYTES;
 use std::io;
 use std::io::{Read, Write};
 
-// Reads one query and answers it; says whether to go on.
-fn next<R: Read, W: Write>(reader: &mut R, out: &mut W) -> io::Result<bool> {
-    let mut query = [0u8; QUERY_BYTES];
-    let n = input::read_full(reader, &mut query)?;
-    if n == 0 {
-        return Ok(false);
-    }
-    printing::query_line(out, &query[..n])?;
-    Ok(true)
-}
-
 fn list<R: Read, W: Write>(reader: &mut R, out: &mut W) -> io::Result<()> {
-    printing::header_line(out)?;
-    for _ in 0..u64::MAX {
-        if !next(reader, out)? {
-            break;
-        }
-    }
-    Ok(())
+    printing::line(out, &formatting::header_line())?;
+    let mut query = [0u8; QUERY_BYTES];
+    input::each_block(reader, &mut query, |query| {
+        printing::line(out, &formatting::query_line(query))
+    })
 }
 
 fn main(rt: HostRuntime) -> io::Result<()> {

@@ -27,21 +27,10 @@ fn place<W: Write>(out: &mut W, k: u64, eta: u64) -> io::Result<()> {
 
 // How many coefficients are printed: all up to the last that is not 0, and at least one.
 fn shown(x: &[u32]) -> usize
-    ensures { result ≤ length x.now }
+    requires { 0 < length x.now }
+    ensures { (0 < result) × (result ≤ length x.now) }
 {
-    let mut n = x.len();
-    while 1 < n {
-        if x[n - 1] != 0 {
-            return n;
-        }
-        n -= 1;
-    }
-    n
-}
-
-// A coefficient; it is a parameter, since a parameter is known to fit its type.
-fn value<W: Write>(out: &mut W, n: u32) -> io::Result<()> {
-    printing::number(out, n as u64)
+    x.iter().rposition(|c| *c != 0).map_or(1, |i| i + 1)
 }
 
 // Coefficients, with commas between.
@@ -49,10 +38,10 @@ fn polynomial<W: Write>(out: &mut W, x: &[u32]) -> io::Result<()>
     requires { 0 < length x.now }
 {
     let n = shown(x);
-    value(out, x[0])?;
-    for i in 1..n {
+    printing::number(out, u64::from(x[0]))?;
+    for c in &x[1..n] {
         printing::text(out, b",")?;
-        value(out, x[i])?;
+        printing::number(out, u64::from(*c))?;
     }
     Ok(())
 }
@@ -101,25 +90,22 @@ fn table_1<W: Write>(out: &mut W, s: &[u32; TERMS], ring: Ring) -> io::Result<()
 
 // f, which is the record's g, and the case. At k = 0 the table has no case.
 fn case<W: Write>(out: &mut W, r: StepRecord) -> io::Result<()> {
-    if r.k == 0 {
-        return printing::text(out, b" * *");
+    match (r.k, r.case) {
+        (0, _) => printing::text(out, b" * *"),
+        (_, 1) => printing::text(out, b" * I"),
+        (_, case) => {
+            printing::field(out, u64::from(r.g))?;
+            printing::text(out, if case == 2 { b" IIa" } else { b" IIb" })
+        }
     }
-    if r.case == 1 {
-        return printing::text(out, b" * I");
-    }
-    printing::field(out, r.g as u64)?;
-    if r.case == 2 {
-        return printing::text(out, b" IIa");
-    }
-    printing::text(out, b" IIb")
 }
 
 // A line of Table 2: l, u, theta, f and the case of row eta at step k.
 fn quintuple<W: Write>(out: &mut W, r: StepRecord) -> io::Result<()> {
-    place(out, r.k as u64, r.row as u64)?;
-    printing::number(out, r.length as u64)?;
-    printing::field(out, r.u as u64)?;
-    printing::field(out, r.theta as u64)?;
+    place(out, u64::from(r.k), u64::from(r.row))?;
+    printing::number(out, u64::from(r.length))?;
+    printing::field(out, u64::from(r.u))?;
+    printing::field(out, u64::from(r.theta))?;
     case(out, r)?;
     printing::text(out, b"\n")
 }
@@ -219,11 +205,7 @@ fn case_15<W: Write>(out: &mut W) -> io::Result<()> {
 fn main(rt: HostRuntime) -> io::Result<()> {
     let mut out = rt.stdout();
     let mut s = [0u32; TERMS];
-    s[0] = 6;
-    s[1] = 3;
-    s[2] = 1;
-    s[3] = 5;
-    s[4] = 6;
+    s[..COUNT].copy_from_slice(&[6, 3, 1, 5, 6]);
     let ring = Ring::new(3, 2, 9);
     table_1(&mut out, &s, ring)?;
     table_2(&mut out, &s, ring)?;

@@ -2,11 +2,10 @@
 // the only one, then the records of its steps as a table; or its refusal alone.
 #![tactic(auto)]
 
-ghost use Rattle.std.specs.Prelude.{◌≡◌, [], ◌∷◌, ◌≤◌};
+ghost use Rattle.std.specs.Prelude.{◌≤◌};
 ghost use Rattle.steps.specs.Sizes.{log_words};
-ghost use Rattle.cells.specs.Cell.{equal};
 
-use input::{CHUNK, LINE_ROOM, Taken};
+use input::Typed;
 use sequence::{A_BYTES, B_BYTES, Outcome, QUERY_BYTES, Refusal, Reported, Sequence};
 use std::env::{Env, FillError};
 use std::io;
@@ -14,14 +13,10 @@ use std::io::{Read, Write};
 use steps::{LOG, StepRecord};
 
 fn row<W: Write>(out: &mut W, r: StepRecord) -> io::Result<()> {
-    printing::number(out, r.power as u64)?;
-    printing::field(out, r.k as u64)?;
-    printing::field(out, r.row as u64)?;
-    printing::field(out, r.length as u64)?;
-    printing::field(out, r.u as u64)?;
-    printing::field(out, r.theta as u64)?;
-    printing::field(out, r.g as u64)?;
-    printing::field(out, r.case as u64)?;
+    printing::number(out, u64::from(r.power))?;
+    for n in [r.k, r.row, r.length, r.u, r.theta, r.g, r.case] {
+        printing::field(out, u64::from(n))?;
+    }
     printing::text(out, b"\n")
 }
 
@@ -43,8 +38,8 @@ fn show<W: Write>(out: &mut W, s: Sequence) -> io::Result<()> {
     let mut log = [0u64; LOG];
     let w = sequence::work(s, &mut a, &mut b, LOG, &mut log);
     let reply = w.reply;
-    printing::reported_line(out, s, reply, &a)?;
-    printing::uniqueness_line(out, reply)?;
+    printing::line(out, &formatting::reported_line(s, reply, &a))?;
+    printing::line(out, &formatting::uniqueness_line(reply))?;
     match reply {
         Reported::Refused(_) => Ok(()),
         Reported::Length(_, _) => table(out, &log, w.count),
@@ -54,55 +49,34 @@ fn show<W: Write>(out: &mut W, s: Sequence) -> io::Result<()> {
 fn one<W: Write>(out: &mut W, query: &[u8]) -> io::Result<()> {
     let c = sequence::check(query);
     match c.outcome {
-        Outcome::Refused(r) => printing::refusal_line(out, r),
+        Outcome::Refused(r) => printing::line(out, &formatting::refusal_line(r)),
         Outcome::Done => show(out, c.sequence),
     }
 }
 
-// Reads one query and answers it; says whether to go on.
-fn next<R: Read, W: Write>(reader: &mut R, out: &mut W) -> io::Result<bool> {
-    let mut query = [0u8; QUERY_BYTES];
-    let n = input::read_full(reader, &mut query)?;
-    if n == 0 {
-        return Ok(false);
-    }
-    one(out, &query[..n])?;
-    Ok(true)
-}
-
 fn queries<R: Read, W: Write>(reader: &mut R, out: &mut W) -> io::Result<()> {
-    printing::header_line(out)?;
-    for _ in 0..u64::MAX {
-        if !next(reader, out)? {
-            break;
-        }
-    }
-    Ok(())
+    printing::line(out, &formatting::header_line())?;
+    let mut query = [0u8; QUERY_BYTES];
+    input::each_block(reader, &mut query, |query| one(out, query))
 }
 
 fn answer<W: Write>(out: &mut W, line: &[u8]) -> io::Result<()> {
     let mut query = [0u8; QUERY_BYTES];
     match lines::read_line(line, &mut query) {
-        Outcome::Refused(r) => printing::refusal_line(out, r),
+        Outcome::Refused(r) => printing::line(out, &formatting::refusal_line(r)),
         Outcome::Done => one(out, &query),
     }
 }
 
 fn typed_lines<R: Read, W: Write>(reader: &mut R, out: &mut W) -> io::Result<()> {
-    printing::header_line(out)?;
-    let mut chunk = [0u8; CHUNK];
-    let mut line = [0u8; LINE_ROOM];
-    let mut source = input::start();
-    for _ in 0..u64::MAX {
-        let t = input::next_line(reader, source, &mut chunk, &mut line)?;
-        source = t.source;
-        match t.taken {
-            Taken::Line(n) => answer(out, &line[..n])?,
-            Taken::TooLong => printing::refusal_line(out, Refusal::Buffer)?,
-            Taken::Ended => break,
+    printing::line(out, &formatting::header_line())?;
+    input::each_line(reader, |typed| {
+        match typed {
+            Typed::Line(line) => answer(out, line)?,
+            Typed::TooLong => printing::line(out, &formatting::refusal_line(Refusal::Buffer))?,
         }
-    }
-    Ok(())
+        Ok(true)
+    })
 }
 
 // What the arguments ask for.
@@ -115,23 +89,14 @@ enum Mode {
 // Whether there is an argument at this place, however long it is.
 fn is_given<E: Env>(env: &E, place: usize) -> bool {
     let mut none = [0u8; 0];
-    match env.arg(place, &mut none) {
-        Err(FillError::NotPresent) => false,
-        _ => true,
-    }
-}
-
-fn is_lines(word: &[u8]) -> bool
-    ensures { result ≡ equal word.now (108 ∷ 105 ∷ 110 ∷ 101 ∷ 115 ∷ []) }
-{
-    cells::same(word, b"lines")
+    !matches!(env.arg(place, &mut none), Err(FillError::NotPresent))
 }
 
 // Whether the first argument is "lines"; one that does not fit here is not.
 fn wants_lines<E: Env>(env: &E) -> bool {
     let mut word = [0u8; 5];
     match env.arg(1, &mut word) {
-        Ok(n) => is_lines(&word[..n]),
+        Ok(n) => &word[..n] == b"lines".as_slice(),
         Err(_) => false,
     }
 }

@@ -1,14 +1,7 @@
--- `formatting::read_number` meets its contract: the loop keeps what `Valued` says.
+-- `formatting::read_number`: the digits before the index are read.
 -- Assumes nothing.
-use Prim.Native.Nat.{◌-◌}
-use lib.ListN.{length}
 use Rattle.formatting.proofs.Pairs.{Valued}
 use Rattle.formatting.proofs.read_number.Given as goal
 
-abbrev pub invariant-loop-place : goal.invariant-loop-place
-invariant-loop-place l =
-    Valued l.s l.value l.place
-
-abbrev pub decreases-loop-place : goal.decreases-loop-place
-decreases-loop-place l =
-    length l.s - l.place
+abbrev pub invariant-loop-b : goal.invariant-loop-b
+invariant-loop-b l = Valued l.s l.value l.b-index

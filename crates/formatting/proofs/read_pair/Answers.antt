@@ -1,21 +1,29 @@
--- `formatting::read_pair` meets its contract.
+-- `formatting::read_pair`: the numbers before and behind the first blank.
 -- Assumes nothing.
-use mathlib.Core.Path.{sym, ap, ◌∙◌}
+use mathlib.Core.Path.{refl, sym, ap, ◌∙◌}
 use Prim.Native.Nat.{◌+◌}
-use native.Mathlib.Omega.{arith}
-use lib.Seq.{length-take-le}
 use Rattle.formatting.specs.Census.{number_of}
-use Rattle.formatting.proofs.Pairs.{pair_none, part_all, pair_read}
+use Rattle.formatting.proofs.Pairs.{blank_found, pair_none, part_all, pair_read}
 use Rattle.formatting.proofs.read_pair.Goals as goal
 
-pub returns-then-line-k : goal.returns-then-line-k
-returns-then-line-k c = pair_none c.args.line.now c.blank_in-k.ensures c.if-line-k.true
+pub returns-in_err-k : goal.returns-in_err-k
+returns-in_err-k c = rw c.from_residual.ensures (pair_none c.args.line.now (sym c.first_blank.ensures ∙ c.in_err-k.was))
 
-pub slice_bounds-read_number-end : goal.slice_bounds-read_number-end
-slice_bounds-read_number-end c = sym (length-take-le _ _ (omega (arith, c.if-line-k.false)))
+pub returns-in_err-modulus : goal.returns-in_err-modulus
+returns-in_err-modulus c =
+    let line = c.args.line.now in
+    rw c.from_residual-in_err-modulus.ensures
+    (pair_read line (blank_found line (sym c.first_blank.ensures ∙ c.in_ok-k.was)) (sym c.in_err-modulus.was ∙ c.read_number.ensures) refl)
+
+pub returns-in_err-count : goal.returns-in_err-count
+returns-in_err-count c =
+    let line = c.args.line.now in
+    rw c.from_residual-in_err-count.ensures
+    (pair_read line (blank_found line (sym c.first_blank.ensures ∙ c.in_ok-k.was)) (sym c.in_ok-modulus.was ∙ c.read_number.ensures)
+    (sym c.in_err-count.was ∙ c.read_number-2.ensures ∙ ap number_of (part_all line (c.in_ok-k.k + 1))))
 
 pub returns : goal.returns
 returns c =
     let line = c.args.line.now in
-    c.pair_of.ensures
-    ∙ pair_read line c.blank_in-k.ensures c.read_number-first.ensures (c.read_number-second.ensures ∙ ap number_of (part_all line (c.blank_in-k.result + 1)))
+    pair_read line (blank_found line (sym c.first_blank.ensures ∙ c.in_ok-k.was)) (sym c.in_ok-modulus.was ∙ c.read_number.ensures)
+    (sym c.in_ok-count.was ∙ c.read_number-2.ensures ∙ ap number_of (part_all line (c.in_ok-k.k + 1)))

@@ -1,45 +1,43 @@
--- `input::next_line` meets its contract. The turns at the start are more than the longest line has bytes: where none are left, it is too
--- long.
+-- `input::next_line` meets its contract. The reads are more than the longest line has bytes: where none are left, it is too long.
 -- Assumes nothing.
 use mathlib.Core.Logic.{inl, inr}
 use native.Mathlib.Omega.{arith}
-use borrow.Author.Tests.{not-true, not-false}
 use Rattle.input.proofs.Turns.{kept_none, spent_told, spent_left, turn_told, turn_left, turn_again, turn_failed}
-use Rattle.std.specs.Prelude.{Result, Ok, Err, OnErr}
+use Rattle.std.proofs.lemmas.Result.{err_from_is_err_and}
 use Rattle.input.proofs.next_line.Goals as goal
-use Rattle.input.proofs.next_line.Goals.{then-p-via-then-p, then-p-via-else-p+then-not-source}
+use Rattle.input.proofs.next_line.Goals.{then-marked-via-then-marked, then-marked-via-else-marked+then-not-source}
 
-on_err : {T E P : Type 0} (r : Result T E) → P → OnErr r P
-on_err (Ok x) p = tt
-on_err (Err e) p = p
+pub loop-read-init : goal.loop-read-init
+loop-read-init g c = kept_none _ _ _ _ _ (omega arith) (omega arith)
 
-pub loop-turns-init : goal.loop-turns-init
-loop-turns-init g c = kept_none _ _ _ _ _ (omega arith) (omega arith)
+pub returns-then-marked-clause-told : goal.returns-then-marked-clause-told
+returns-then-marked-clause-told g c =
+    let p = c.take_piece-marked in
+    turn_told p.result c.loop-read.invariant p.ensures.by_index p.ensures.marked_value _ p.ensures.chunk_value c.taken_of.ensures.by_index
+    (elim c.then-marked.branch [
+      | then-marked-via-then-marked w ↦ inl w.if-marked.true
+      | then-marked-via-else-marked+then-not-source w ↦ inr (w.if-marked.false, w.if-not-source.true)
+    ])
 
-pub returns-then-p-clause-told : goal.returns-then-p-clause-told
-returns-then-p-clause-told g c =
-    let p = c.take_piece-p in
-    turn_told p.result.marked c.loop-turns.invariant p.ensures.by_index p.ensures.marked_value p.result.source p.ensures.chunk_value c.taken_of-taken.ensures.by_index
-    (elim c.then-p.branch [ then-p-via-then-p w ↦ inl w.if-p.true | then-p-via-else-p+then-not-source w ↦ inr (w.if-p.false, not-true _ w.if-not-source.true) ])
+pub returns-then-marked-clause-chunk_after : goal.returns-then-marked-clause-chunk_after
+returns-then-marked-clause-chunk_after g c =
+    let p = c.take_piece-marked in
+    turn_left p.result c.loop-read.invariant p.ensures.by_index p.ensures.marked_value _ p.ensures.chunk_value
 
-pub returns-then-p-clause-chunk_after : goal.returns-then-p-clause-chunk_after
-returns-then-p-clause-chunk_after g c =
-    let p = c.take_piece-p in
-    turn_left p.result.marked c.loop-turns.invariant p.ensures.by_index p.ensures.marked_value p.result.source p.ensures.chunk_value
+pub loop-read-preserved : goal.loop-read-preserved
+loop-read-preserved g c =
+    let p = c.take_piece-marked in
+    turn_again p.result c.loop-read.invariant p.ensures.by_index p.ensures.marked_value p.new.self p.ensures.open_value c.if-marked.false c.if-not-source.false c.in_ok-refill.ensures.given (omega arith)
 
-pub loop-turns-preserved : goal.loop-turns-preserved
-loop-turns-preserved g c =
-    let p = c.take_piece-p in
-    turn_again p.result.marked c.loop-turns.invariant p.ensures.by_index p.ensures.marked_value p.result.source p.ensures.open_value c.if-p.false (not-false _ c.if-not-source.false) c.in_ok-source.ensures.given (omega arith)
+pub returns-in_err-refill-clause-failed : goal.returns-in_err-refill-clause-failed
+returns-in_err-refill-clause-failed g c =
+    let p = c.take_piece-marked in
+    let cut = turn_failed p.result c.loop-read.invariant p.ensures.by_index p.ensures.marked_value p.new.self p.ensures.open_value c.if-marked.false c.if-not-source.false in
+    let e = err_from_is_err_and c.from_residual.result c.from_residual.ensures.1 in
+    rw e.1 cut
 
 pub returns-clause-told : goal.returns-clause-told
-returns-clause-told g c = spent_told _ _ _ c.loop-turns.invariant (omega arith) (omega arith)
+returns-clause-told g c = spent_told _ _ _ c.loop-read.invariant (omega arith) (omega arith)
 
 pub returns-clause-chunk_after : goal.returns-clause-chunk_after
-returns-clause-chunk_after g c = spent_left _ _ _ c.loop-turns.invariant (omega arith)
-
-pub returns-in_err-source-clause-failed : goal.returns-in_err-source-clause-failed
-returns-in_err-source-clause-failed g c =
-    let p = c.take_piece-p in
-    let cut = turn_failed p.result.marked c.loop-turns.invariant p.ensures.by_index p.ensures.marked_value p.result.source p.ensures.open_value c.if-p.false (not-false _ c.if-not-source.false) in
-    on_err c.from_residual.result cut
+returns-clause-chunk_after g c = spent_left _ _ _ c.loop-read.invariant (omega arith)

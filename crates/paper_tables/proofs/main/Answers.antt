@@ -9,7 +9,7 @@ pub new-ring-requires : goal.new-ring-requires
 new-ring-requires c = (three, omega arith, refl, omega arith)
 
 pub table_1-requires : goal.table_1-requires
-table_1-requires c = λ i h. low i
+table_1-requires c = rw c.copy_from_slice.ensures.after (λ i h. low i)
 
 pub table_2-requires : goal.table_2-requires
-table_2-requires c = λ i h. low i
+table_2-requires c = rw c.copy_from_slice.ensures.after (λ i h. low i)

@@ -1,22 +1,40 @@
--- `printing::text` meets its contract: what was taken so far grows by what a write takes.
+-- `printing::text` meets its contract: what a write takes comes off the rest.
 -- Assumes nothing.
-use Rattle.std.proofs.Common.{◌≡◌, ◌∙◌, sym, ap, subst, ℕ, List, ◌++◌, ◌+◌, ◌-◌, ◌≤◌, length, take, drop, length-take-le, length-drop, arith}
-use Rattle.std.proofs.Math.Seq.{take-add}
-use Rattle.std.proofs.lemmas.List.{take-take}
+use Rattle.std.proofs.Common.{◌≡◌, ◌∙◌, sym, ap, ap₂, subst, ℕ, List, ◌++◌, ◌+◌, ◌-◌, ◌≤◌, Option, length, take, drop, length-drop, arith}
+use Rattle.std.proofs.Math.Seq.{take-add, drop-drop}
+use Rattle.std.proofs.lemmas.List.{take_rest}
 use Rattle.std.specs.Io.KnownBytes.{Appends}
 use Rattle.std.proofs.KnownBytes.{Appends-trans}
 use Rattle.printing.proofs.text.Goals as goal
 
--- the first n of what is left after the first d
-more_taken : (d n : ℕ) (s : List ℕ) → n ≤ length s - d → take d s ++ take n (take (length s - d) (drop d s)) ≡ take (d + n) s
-more_taken d n s h = ap (λ (xs : List ℕ). take d s ++ xs) (take-take n (length s - d) (drop d s) h) ∙ sym (take-add d n s)
+module _ (s rest : List ℕ) (n : ℕ) (few : n ≤ length rest) (size : length rest ≤ length s) (is : rest ≡ drop (length s - length rest) s) where
+  abbrev left : List ℕ
+  left = take (length rest - n) (drop n rest)
 
-pub loop-done-preserved : goal.loop-done-preserved
-loop-done-preserved g c =
-    let s = c.args.s.now in
-    let d = c.loop-done.done in
-    let n = c.in_ok-n.n in
-    let whole : length (take (length s - d) (drop d s)) ≡ length s - d = length-take-le (length s - d) (drop d s) (omega (arith, length-drop d s)) in
-    let few : n ≤ length s - d = omega (arith, c.in_ok-n.ensures.bound, whole) in
-    let both = Appends-trans _ _ _ _ _ c.loop-done.invariant.1 c.in_ok-n.ensures.bytes in
-    (omega (arith, few), subst (Appends (g.W.Write.contents c.args.out.now) (g.W.Write.contents c.write.new.self)) (more_taken d n s few) both)
+  -- where the rest begins, before and after
+  abbrev from : ℕ
+  from = length s - length rest
+
+  is_left : left ≡ drop n rest
+  is_left = take_rest rest n
+
+  size_left : length left ≡ length rest - n
+  size_left = ap length is_left ∙ length-drop n rest
+
+  moved : length s - length left ≡ from + n
+  moved = omega (arith, size_left)
+
+  left_next : (a b c : Option (List ℕ)) → Appends a b (take from s) → Appends b c (take n rest)
+      → (length left ≤ length s) × (left ≡ drop (length s - length left) s) × Appends a c (take (length s - length left) s)
+  left_next a b c p q = (
+    omega (arith, size_left),
+    is_left ∙ ap (drop n) is ∙ drop-drop n from s ∙ ap (λ (k : ℕ). drop k s) (sym moved),
+    subst (Appends a c)
+        (ap (λ (xs : List ℕ). take from s ++ take n xs) is ∙ sym (take-add from n s) ∙ ap (λ (k : ℕ). take k s) (sym moved))
+        (Appends-trans a b c _ _ p q),
+  )
+
+pub loop-rest-preserved : goal.loop-rest-preserved
+loop-rest-preserved g c =
+    let kept = c.loop-rest.invariant in
+    left_next c.args.s.now c.loop-rest.rest.now c.in_ok-n.n c.in_ok-n.ensures.bound kept.0 kept.1 _ _ _ kept.2 c.in_ok-n.ensures.bytes
