@@ -1,17 +1,19 @@
 -- What fits has a ring for the steps, and what the steps give there is what is written. The numbers of a trace's records, added up.
 -- Assumes nothing.
 use mathlib.Core.Path.{◌≡◌, refl, sym, ap, ◌∙◌}
-use mathlib.Core.Bool.{Bool, true, false, not}
-use mathlib.Core.List.{List, [], ◌++◌, append-nil}
+use mathlib.Core.Bool.{Bool, true, false, not, ◌&&◌}
+use mathlib.Core.List.{List, [], ◌∷◌, ◌++◌, append-nil}
 use Prim.Native.Nat.{ℕ, zero, suc, ◌≤◌, ◌<◌}
 use native.Mathlib.Decide.{dec_le}
 use native.Mathlib.Omega.{arith}
-use lib.Dec.{leb}
+use lib.Dec.{leb, ltb}
 use lib.ListN.{length, drop}
 use lib.Seq.{drop-nil}
 use borrow.Author.Tests.{ltb-true, leb-true, le-leb, lt-leb}
-use Rattle.std.specs.Prelude.{Err}
+use Rattle.std.specs.Prelude.{Ok}
+use Rattle.std.specs.List.{list_all}
 use Rattle.lists.specs.Choice.{pick}
+use Rattle.lists.specs.Search.{all}
 use Rattle.lists.specs.Sum.{sum_to}
 use Rattle.lists.specs.Table.{at, tabulate}
 use Rattle.lists.proofs.Sum.{sum_to_head}
@@ -26,11 +28,25 @@ use Rattle.steps.specs.Run.{Below, Result}
 use Rattle.sequence.specs.declared.Sequence.{Sequence}
 use Rattle.sequence.specs.declared.Worked.{Worked}
 use Rattle.sequence.specs.Rules.{outside}
-use Rattle.sequence.specs.Trace.{records_of, sheet_filled, words_of, work_of}
+use Rattle.sequence.specs.Trace.{records_of, sheet_filled, words_of, trace_of, work_of}
 use Rattle.sequence.proofs.Laws.{inside}
-use Rattle.sequence.proofs.Tracing.{zeros, entry_of, filling_all}
+use Rattle.sequence.proofs.Tracing.{zeros, entry_of, filling_all, reply_told}
 use Rattle.timing.specs.Entries.{low, fits, row_of, row_cells, row_lengths, numbers_of, all_numbers, sum_of}
-use Rattle.sequence.specs.Answers.{Reported, of_length}
+use Rattle.sequence.specs.Answers.{Reported}
+
+-- a test of every term of a list, as one of every place
+pub all_listed : (p : ℕ → Bool) (S : List ℕ) → list_all p S ≡ all (length S) (λ i. p (at S i))
+unfolding all
+all_listed p [] = refl
+all_listed p (x ∷ S) = go (p x) (all_listed p S)
+  where
+    go : (b : Bool) → list_all p S ≡ all (length S) (λ i. p (at S i)) → (b && list_all p S) ≡ elim b as (λ _. Bool) [ true ↦ all (length S) (λ i. p (at S i)) | false ↦ false ]
+    go true h = h
+    go false h = refl
+
+pub low_listed : (S : List ℕ) → length S ≡ max_terms → list_all (λ t. ltb t 65536) S ≡ low S
+unfolding low
+low_listed S h = all_listed (λ t. ltb t 65536) S ∙ ap (λ (n : ℕ). all n (λ i. ltb (at S i) 65536)) h
 
 -- what the test of the inputs says
 pub record Fit (m n : ℕ) (S : List ℕ) : Type 0 where
@@ -81,13 +97,10 @@ bare : {A : Type 0} (xs : List A) (k : ℕ) → xs ++ drop k [] ≡ xs
 bare xs k = ap (λ (ys : List _). xs ++ ys) (drop-nil k) ∙ append-nil xs
 
 -- what the log of a trace adds up to: the records that `trace` would store in place of a sheet of none
-pub sum_told : (s : Sequence) (a b : List ℕ) (n : ℕ) (y : Worked) → y ≡ work_of s a b n → (log : List ℕ) → log ≡ sheet_filled y.reply (words_of s) zeros
-    → sum_to y.count (λ i. numbers_of (unpacked (at log i))) ≡ sum_of y.reply s
+pub sum_told : (s : Sequence) (a b : List ℕ) (n : ℕ) (y : Worked) → Ok y ≡ work_of s a b n → (log : List ℕ) → log ≡ sheet_filled (Ok y) (words_of s) zeros
+    → sum_to y.count (λ i. numbers_of (unpacked (at log i))) ≡ sum_of (trace_of s a b n) s
 unfolding all_numbers
 sum_told s a b n y e log w =
-    numbers_tabulate y.count (entry_of log) ∙ ap all_numbers (sym (bare (tabulate y.count (entry_of log)) y.count) ∙ filling_all s a b n y e log w [])
-    ∙ go y.reply
-  where
-    go : (r : Reported) → all_numbers (sheet_filled r (records_of s) []) ≡ sum_of r s
-    go (of_length l w) = ap all_numbers (bare (records_of s) (length (records_of s)))
-    go (Err r) = refl
+    numbers_tabulate y.count (entry_of log)
+    ∙ ap all_numbers (sym (bare (tabulate y.count (entry_of log)) y.count) ∙ filling_all s a b n y e log w [] ∙ bare (records_of s) (length (records_of s)))
+    ∙ ap (λ (r : Reported). sum_of r s) (sym (reply_told s a b n y e))

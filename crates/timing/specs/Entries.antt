@@ -1,6 +1,6 @@
 -- What the entry points for the benchmark reply and write.
 -- Assumes nothing.
-use Rattle.std.specs.Prelude.{Bool, not, List, [], ◌∷◌, ℕ, zero, ◌+◌, ◌*◌, ltb, leb, Err}
+use Rattle.std.specs.Prelude.{Bool, not, List, [], ◌∷◌, ℕ, zero, ◌+◌, ◌*◌, ltb, leb, Ok, Err}
 use Rattle.lists.specs.Choice.{pick, both}
 use Rattle.lists.specs.Search.{all}
 use Rattle.lists.specs.Table.{at, tabulate}
@@ -10,7 +10,7 @@ use Rattle.recurrence.specs.Steps.{row_at}
 use Rattle.steps.specs.Sizes.{max_terms, max_cells}
 use Rattle.steps.specs.declared.StepRecord.{StepRecord}
 use Rattle.sequence.specs.declared.Sequence.{Sequence}
-use Rattle.sequence.specs.Answers.{uniqueness, Reported, of_length}
+use Rattle.sequence.specs.Answers.{uniqueness, Reported}
 use Rattle.sequence.specs.Rules.{outside}
 use Rattle.sequence.specs.Trace.{records_of}
 
@@ -44,7 +44,7 @@ given m n S = record { modulus = m; count = n; terms = S }
 
 -- the length that is replied, and 2^32 times `uniqueness`; a refusal is 129, which no length is
 abbrev pub replied_by : Reported → ℕ
-replied_by (of_length l w) = l + 4294967296 * uniqueness w
+replied_by (Ok x) = x.length + 4294967296 * uniqueness x.uniqueness
 replied_by (Err r) = max_cells
 
 -- ---- the working
@@ -60,5 +60,5 @@ all_numbers (x ∷ xs) = numbers_of x + all_numbers xs
 
 -- the sum that is replied: over the records of the sequence's sheet; of a refusal, 0
 abbrev pub sum_of : Reported → Sequence → ℕ
-sum_of (of_length l w) s = all_numbers (records_of s)
+sum_of (Ok x) s = all_numbers (records_of s)
 sum_of (Err r) s = zero

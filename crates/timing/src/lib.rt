@@ -2,7 +2,8 @@
 // Like the public calls they take any input.
 #![tactic(auto)]
 
-ghost use Rattle.std.specs.Prelude.{◌≡◌, ℕ, ◌≤◌};
+ghost use Rattle.std.specs.Prelude.{◌≡◌, ℕ, ◌≤◌, ltb};
+ghost use Rattle.std.specs.List.{list_all};
 ghost use Rattle.lists.specs.Choice.{pick};
 ghost use Rattle.lists.specs.Sum.{sum_to};
 ghost use Rattle.lists.specs.Table.{at};
@@ -13,36 +14,24 @@ ghost use Rattle.sequence.specs.Rules.{open_of};
 ghost use Rattle.sequence.specs.Report.{report_of, filled, a_buffer, b_buffer};
 ghost use Rattle.sequence.specs.Trace.{trace_of};
 ghost use Rattle.column.specs.Rules.{terms_in, each_of, push_all_of};
-ghost use Rattle.timing.specs.Entries.{low, fits, row_cells, row_lengths, given, replied_by, numbers_of, sum_of};
+ghost use Rattle.timing.specs.Entries.{fits, row_cells, row_lengths, given, replied_by, numbers_of, sum_of};
 
-use sequence::{Outcome, Reported, Sequence, Uniqueness};
+use sequence::{Sequence, Uniqueness};
 use steps::{CELLS, LOG, Ring, StepRecord, TERMS};
 
 // Whether every term is small enough for the products of the steps.
 fn are_low(s: &[u32; TERMS]) -> bool
-    ensures { result ≡ low s.now }
+    ensures { result ≡ list_all (λ t. ltb t 65536) s.now }
 {
-    let mut i: usize = 0;
-    while i < TERMS {
-        if 65536 <= s[i] {
-            return false;
-        }
-        i += 1;
-    }
-    true
+    s.iter().all(|t| *t < 65536)
 }
 
 // Whether the steps can be run: on any other input nothing is done.
+#[tactic(auto, using(crate::proofs::Laws::low_listed), unfolding(crate::specs::Entries::fits))]
 fn fits(m: u32, n: usize, s: &[u32; TERMS]) -> bool
     ensures { result ≡ fits m n s.now }
 {
-    if sequence::outside(m) {
-        return false;
-    }
-    if TERMS < n {
-        return false;
-    }
-    are_low(s)
+    !sequence::outside(m) && n <= TERMS && are_low(s)
 }
 
 // The steps at the prime power of the least prime of m, on the first n terms: a of row 0 and its lengths, and whether they were written.
@@ -80,6 +69,17 @@ fn value_of(w: Uniqueness) -> u64
     }
 }
 
+// The sequence that is handed in, whatever is wrong with it.
+fn given(modulus: u32, count: u32, terms: &[u32; TERMS]) -> Sequence
+    ensures { result ≡ given modulus count terms.now }
+{
+    Sequence {
+        modulus,
+        count,
+        terms: *terms,
+    }
+}
+
 // The register of a sequence, by the public call. The reply is its length and 2^32 times `uniqueness`, or 129 where the call refuses.
 // Rejected: one that replies the count; one that swaps a and b.
 #[unsafe(no_mangle)]
@@ -96,16 +96,9 @@ pub extern "C" fn timing_register(
     ensures b_after { b.new ≡ filled (report_of (given m count terms.now) a.old b.old)
         (b_buffer (given m count terms.now)) b.old }
 {
-    let t = *terms;
-    let s = Sequence {
-        modulus: m,
-        count: count,
-        terms: t,
-    };
-    let r = sequence::register(s, a, b);
-    match r {
-        Reported::Length(l, w) => (l as u64) + 4294967296 * value_of(w),
-        Reported::Refused(_) => CELLS as u64,
+    match given(m, count, terms).register(a, b) {
+        Ok(r) => u64::from(r.length) + 4294967296 * value_of(r.uniqueness),
+        Err(_) => CELLS as u64,
     }
 }
 
@@ -113,8 +106,8 @@ pub extern "C" fn timing_register(
 fn total(x: StepRecord) -> u64
     ensures { (result ≡ numbers_of x) × (result ≤ 34359738360) }
 {
-    let place = (x.power as u64) + (x.k as u64) + (x.row as u64) + (x.length as u64);
-    place + (x.u as u64) + (x.theta as u64) + (x.g as u64) + (x.case as u64)
+    let place = u64::from(x.power) + u64::from(x.k) + u64::from(x.row) + u64::from(x.length);
+    place + u64::from(x.u) + u64::from(x.theta) + u64::from(x.g) + u64::from(x.case)
 }
 
 // The numbers of the first records of a log, added up.
@@ -122,11 +115,9 @@ fn add_up(log: &[u64; LOG], count: usize) -> u64
     requires { count ≤ log_words }
     ensures { result ≡ sum_to count (λ (i : ℕ). numbers_of (unpacked (at log.now i))) }
 {
-    let mut sum: u64 = 0;
-    let mut i: usize = 0;
-    while i < count {
+    let mut sum = 0;
+    for i in 0..count {
         sum += total(steps::entry(log, i));
-        i += 1;
     }
     sum
 }
@@ -149,15 +140,11 @@ pub extern "C" fn timing_trace(
     ensures b_after { b.new ≡ filled (trace_of (given m count terms.now) a.old b.old log_words)
         (b_buffer (given m count terms.now)) b.old }
 {
-    let t = *terms;
-    let s = Sequence {
-        modulus: m,
-        count: count,
-        terms: t,
-    };
     let mut log = [0u64; LOG];
-    let w = sequence::work(s, a, b, LOG, &mut log);
-    add_up(&log, w.count)
+    match given(m, count, terms).work(a, b, LOG, &mut log) {
+        Ok(w) => add_up(&log, w.count),
+        Err(_) => 0,
+    }
 }
 
 // A column pushed to a fresh sequence by one call. The terms that are held then are written, and the reply is their number.
@@ -167,43 +154,26 @@ pub extern "C" fn timing_push_all(m: u32, list: &[u8], terms: &mut [u32; TERMS])
     ensures value { result ≡ (push_all_of (open_of m).sequence list.now).sequence.count }
     ensures terms_after { terms.new ≡ (push_all_of (open_of m).sequence list.now).sequence.terms }
 {
-    let o = sequence::open(m);
+    let o = Sequence::open(m);
     let p = column::push_all(o.sequence, list);
-    let s = p.sequence;
-    let t = s.terms;
+    let t = p.sequence.terms;
     *terms = t;
-    s.count
+    p.sequence.count
 }
 
-// The terms of a column pushed by a call each, up to the first refused one.
-fn push_singly(s: Sequence, list: &[u8]) -> Sequence
-    ensures { result ≡ (each_of s (terms_in list.now)).sequence }
-{
-    let n = list.len() / 2;
-    let mut longer = s;
-    let mut i: usize = 0;
-    while i < n {
-        let p = sequence::push(longer, cells::cell(list, i));
-        longer = p.sequence;
-        let o = p.outcome;
-        match o {
-            Outcome::Done => i += 1,
-            Outcome::Refused(_) => return longer,
-        }
-    }
-    longer
-}
-
-// The same by single pushes.
+// The same by a push for each term, up to the first refused one.
 // Rejected: one that pushes the whole list in one call and replies 0; one that stops before the last term.
 #[unsafe(no_mangle)]
 pub extern "C" fn timing_pushes(m: u32, list: &[u8], terms: &mut [u32; TERMS]) -> u32
     ensures value { result ≡ (each_of (open_of m).sequence (terms_in list.now)).sequence.count }
     ensures terms_after { terms.new ≡ (each_of (open_of m).sequence (terms_in list.now)).sequence.terms }
 {
-    let o = sequence::open(m);
-    let s = push_singly(o.sequence, list);
-    let t = s.terms;
-    *terms = t;
+    let mut s = Sequence::open(m).sequence;
+    for i in 0..list.len() / 2 {
+        if s.push(cells::cell(list, i)).is_err() {
+            break;
+        }
+    }
+    *terms = s.terms;
     s.count
 }

@@ -13,17 +13,11 @@ use Rattle.timing.proofs.add_up.Goals as goal
 
 pub loop-i-init : goal.loop-i-init
 unfolding sum_to
-loop-i-init c = (omega arith, refl, omega arith)
+loop-i-init c = (refl, omega arith)
 
 pub loop-i-preserved : goal.loop-i-preserved
 loop-i-preserved c =
     let l = c.loop-i in
     let log = c.args.log.now in
     let one : c.total-sum.result ≡ numbers_of (unpacked (at log l.i)) = c.total-sum.ensures.0 ∙ ap (λ (x : StepRecord). numbers_of x) c.entry.ensures in
-    (omega arith, omega (arith, l.invariant.1, one, sum_to_more l.i (λ (j : ℕ). numbers_of (unpacked (at log j)))), omega arith)
-
-pub returns : goal.returns
-returns c =
-    let l = c.loop-i in
-    let end : l.i ≡ c.args.count = omega arith in
-    l.invariant.1 ∙ ap (λ (k : ℕ). sum_to k (λ (j : ℕ). numbers_of (unpacked (at c.args.log.now j)))) end
+    (omega (arith, l.invariant.0, one, sum_to_more l.i (λ (j : ℕ). numbers_of (unpacked (at log j)))), omega arith)

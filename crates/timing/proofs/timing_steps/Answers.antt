@@ -1,6 +1,6 @@
 -- `timing_steps` meets its contract: what fits has a ring for the steps, and anything else is left as it was.
 -- Assumes nothing.
-use mathlib.Core.Path.{refl, sym, ◌∙◌, subst}
+use mathlib.Core.Path.{sym, ◌∙◌, subst}
 use native.Mathlib.Nat.{mul-le-mul}
 use native.Mathlib.Omega.{arith}
 use Rattle.residue.specs.Factors.{PrimePower, least_power}
@@ -34,6 +34,3 @@ returns-then-fits c =
     let same = is_power (least_power z.m) _ _ (r.0 ∙ s.0) (r.1 ∙ s.1) in
     let t = subst (λ (y : PrimePower). Result y z.s.now z.n x.new.a x.new.lens) same x.ensures.0 in
     record { value = cc; a_after = cells_are z.m t; lens_after = lengths_are z.m t }
-
-pub returns : goal.returns
-returns c = record { value = cc; a_after = refl; lens_after = refl }
