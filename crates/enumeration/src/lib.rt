@@ -12,7 +12,7 @@ ghost use Rattle.sequence.specs.Answers.{outcome_answer};
 ghost use Rattle.sequence.specs.Report.{filled};
 ghost use Rattle.enumeration.specs.Rules.{max_sequences, lengths, counted_of, number_in, enumerate_of, enumerate_answer, query_numbered, tally_of, tally_answer, tally_cells};
 
-use sequence::{MAX_TERMS, QUERY_BYTES, Refusal};
+use sequence::{MAX_TERMS, QUERY_BYTES, Refusal, Sequence};
 use steps::TERMS;
 
 // No more sequences are counted than these, whatever the largest modulus is.
@@ -62,16 +62,6 @@ fn digits(m: u32, n: usize, number: u32) -> [u32; TERMS]
     terms
 }
 
-// Writes the query of n terms modulo m; the terms past them are zero.
-fn write_query(m: u32, n: u32, terms: &[u32; TERMS], query: &mut [u8])
-    requires { (length terms.now ≡ max_terms) × (length query.old ≡ query_bytes) }
-    ensures { query.new ≡ bytes_of (m ∷ n ∷ terms.now) }
-{
-    cells::put(query, 0, m);
-    cells::put(query, 1, n);
-    cells::write(&mut query[4..], terms);
-}
-
 // Writes the query of the sequence with a number, of the k that there are.
 fn write_sequence(m: u32, n: u32, number: u64, k: u32, query: &mut [u8]) -> Result<(), Refusal>
     requires { (counted_of m n ≡ Ok k) × (length query.old ≡ query_bytes) }
@@ -81,8 +71,12 @@ fn write_sequence(m: u32, n: u32, number: u64, k: u32, query: &mut [u8]) -> Resu
     if k as u64 <= number {
         return Err(Refusal::Census);
     }
-    let terms = digits(m, n as usize, number as u32);
-    write_query(m, n, &terms, query);
+    let s = Sequence {
+        modulus: m,
+        count: n,
+        terms: digits(m, n as usize, number as u32),
+    };
+    s.write(query);
     Ok(())
 }
 

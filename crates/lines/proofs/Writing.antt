@@ -12,7 +12,7 @@ use mir.Syntax.{w32}
 use mir.Val.{SFits, to_z, of_z}
 use mir.Facts.{to_z-of_z}
 use Rattle.std.specs.Prelude.{Result, Ok, Err}
-use Rattle.lists.specs.Table.{at}
+use Rattle.lists.specs.Table.{at, tabulate}
 use Rattle.lists.proofs.Table.{length_tabulate, get_d_tabulate, tabulate_eq}
 use Rattle.lists.proofs.Search.{false_true}
 use Rattle.residue.specs.Signed.{residue_of}
@@ -22,7 +22,6 @@ use Rattle.sequence.specs.declared.Refusal.{Refusal}
 use Rattle.sequence.specs.Rules.{query_of}
 use Rattle.sequence.proofs.Laws.{refused_as}
 use Rattle.lines.specs.Reply.{reply_of}
-use Rattle.sequence.proofs.Writing.{values}
 use Rattle.lines.specs.Reading.{Found, broken, past, read}
 use Rattle.lines.specs.Scan.{scanned_of, first_terms}
 
@@ -68,7 +67,7 @@ pub at_map : (m : ℕ) (ts : List ℤ) (j : ℕ) → at (map (residue_of m) ts) 
 at_map m ts j = ap (get_or (map (residue_of m) ts) j) (sym (zero-mod m)) ∙ get_or-map (residue_of m) ts j (pos 0)
 
 -- the first 128 remainders, zero past the last, are those of the array
-pub same_query : (m n : ℕ) (ts xs : List ℤ) → n ≡ length ts → xs ≡ first_terms ts → bytes_of (values m n (remainder m xs)) ≡ query_of m (map (residue_of m) ts)
+pub same_query : (m n : ℕ) (ts xs : List ℤ) → n ≡ length ts → xs ≡ first_terms ts → bytes_of (m ∷ n ∷ tabulate max_terms (remainder m xs)) ≡ query_of m (map (residue_of m) ts)
 same_query m n ts xs e f =
     ap₂ (λ (k : ℕ) (vs : List ℕ). bytes_of (m ∷ k ∷ vs)) (e ∙ sym (length-map ts (residue_of m)))
     (tabulate_eq max_terms (remainder m xs) (at (map (residue_of m) ts)) each)

@@ -81,20 +81,6 @@ fn merged_terms(xs: &[u32; TERMS], ys: &[u32; TERMS], n: u32, m: Moduli) -> [u32
     terms
 }
 
-// Writes the query of the merged terms.
-fn write_query(xs: &[u32; TERMS], ys: &[u32; TERMS], n: u32, m: Moduli, query: &mut [u8])
-    requires xs_len { (length xs.now ≡ max_terms) × (length ys.now ≡ max_terms) × (n ≤ max_terms) × (length query.old ≡ query_bytes) }
-    requires multiple_value { (m.multiple ≡ m.mu * m.nu * m.g) × (m.multiple < 65536) × Coprime m.mu m.nu × (m.joiner ≡ inverse m.nu m.mu) }
-    requires by_index { (i : ℕ) → i < n → (at xs.now i < m.mu * m.g) × (at ys.now i < m.nu * m.g) × (at xs.now i % m.g ≡ at ys.now i % m.g) }
-    ensures { query.new ≡ query_of m.multiple
-        (tabulate n (λ i. joined m.multiple (two (m.mu * m.g) (at xs.now i) (m.nu * m.g) (at ys.now i)))) }
-{
-    let terms = merged_terms(xs, ys, n, m);
-    cells::put(query, 0, m.multiple);
-    cells::put(query, 1, n);
-    cells::write(&mut query[4..], &terms);
-}
-
 // Writes the query of two sequences that can be merged; g is the common divisor of their moduli.
 fn write_merged(s: &Sequence, t: &Sequence, g: u32, query: &mut [u8])
     requires { IsSound s.now × IsSound t.now × (g ≡ divisor_of s.now t.now) × (compared_of s.now t.now ≡ Ok tt) × (length query.old ≡ query_bytes) }
@@ -111,7 +97,12 @@ fn write_merged(s: &Sequence, t: &Sequence, g: u32, query: &mut [u8])
         g,
         joiner,
     };
-    write_query(&s.terms, &t.terms, s.count, m, query);
+    let merged = Sequence {
+        modulus: multiple,
+        count: s.count,
+        terms: merged_terms(&s.terms, &t.terms, s.count, m),
+    };
+    merged.write(query);
 }
 
 // Merges two sequences that meet no refusal of their own.

@@ -2,7 +2,7 @@
 // register; what is wrong with one, and the query that writes one down.
 #![tactic(auto)]
 
-ghost use Rattle.std.specs.Prelude.{◌≡◌, ◌≤◌, ◌<◌, length, ◌++◌};
+ghost use Rattle.std.specs.Prelude.{◌≡◌, ◌∷◌, ◌≤◌, ◌<◌, length, ◌++◌};
 ghost use Rattle.cells.specs.Cell.{bytes_of};
 ghost use Rattle.steps.specs.Sizes.{log_words};
 ghost use Rattle.synthesis.specs.Synthesis.{synthesis_of};
@@ -334,6 +334,16 @@ impl Sequence {
         self.terms[n as usize] = term;
         self.count = n + 1;
         Ok(())
+    }
+
+    // Writes the query that writes the sequence down, sound or not.
+    pub fn write(&self, query: &mut [u8])
+        requires { (length self.now.terms ≡ max_terms) × (length query.old ≡ query_bytes) }
+        ensures { query.new ≡ bytes_of (self.now.modulus ∷ self.now.count ∷ self.now.terms) }
+    {
+        cells::put(query, 0, self.modulus);
+        cells::put(query, 1, self.count);
+        cells::write(&mut query[4..], &self.terms);
     }
 
     // The register and the profile of a sound sequence.

@@ -15,12 +15,12 @@ overflow_cast-number c =
     let l : Legal c.args.m c.args.n c.args.k = counted _ _ _ c.requires.0 in
     omega (arith, l.small)
 
-pub digits-terms-requires : goal.digits-terms-requires
-digits-terms-requires c =
+pub digits-requires : goal.digits-requires
+digits-requires c =
     let l : Legal c.args.m c.args.n c.args.k = counted _ _ _ c.requires.0 in
     (omega (arith, l.least), l.count)
 
 pub returns : goal.returns
 returns c =
     let a = c.args in
-    record { value = number_taken a.k a.number (omega (arith, c.if-k-number.false)); query_after = query_is _ _ _ c.digits-terms.ensures c.write_query.ensures }
+    record { value = number_taken a.k a.number (omega (arith, c.if-k-number.false)); query_after = query_is _ _ _ c.digits.ensures c.write.ensures }

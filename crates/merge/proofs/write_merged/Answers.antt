@@ -3,7 +3,7 @@
 use mathlib.Core.Path.{◌∙◌}
 use native.Mathlib.Omega.{arith}
 use borrow.Author.Rules.{rules}
-use Rattle.merge.proofs.Laws.{product_fits, mergeable, rests, multiple_fits, rests_fit, terms_fit, merged_is}
+use Rattle.merge.proofs.Laws.{product_fits, mergeable, rests, multiple_fits, rests_fit, terms_fit, merged_is, written_query}
 use Rattle.merge.proofs.write_merged.Goals as goal
 
 pub nonzero_div-mu : goal.nonzero_div-mu
@@ -21,11 +21,11 @@ joiner-joiner-requires c =
     let r = rests c.args.s.now c.args.t.now c.requires.0 c.requires.1 c.args.g c.requires.2 in
     (r.mu_pos, r.nu_pos, rests_fit c.args.s.now c.args.t.now c.requires.0 c.requires.1 c.args.g c.requires.2 (mergeable c.args.s.now c.args.t.now c.requires.3), r.coprime)
 
-pub write_query-requires : goal.write_query-requires
-write_query-requires c =
+pub merged_terms-requires : goal.merged_terms-requires
+merged_terms-requires c =
     let r = rests c.args.s.now c.args.t.now c.requires.0 c.requires.1 c.args.g c.requires.2 in
-    let multiple = multiple_fits c.args.s.now c.args.t.now c.requires.0 c.requires.1 c.args.g c.requires.2 (mergeable c.args.s.now c.args.t.now c.requires.3) in record { xs_len = (search rules, search rules, c.requires.0.count, c.requires.4); multiple_value = (multiple.0, multiple.1, r.coprime, c.joiner-joiner.ensures); by_index = terms_fit c.args.s.now c.args.t.now c.requires.0 c.requires.1 c.args.g c.requires.2 (mergeable c.args.s.now c.args.t.now c.requires.3) }
+    let multiple = multiple_fits c.args.s.now c.args.t.now c.requires.0 c.requires.1 c.args.g c.requires.2 (mergeable c.args.s.now c.args.t.now c.requires.3) in record { xs_len = (search rules, search rules, c.requires.0.count); multiple_value = (multiple.0, multiple.1, r.coprime, c.joiner-joiner.ensures); by_index = terms_fit c.args.s.now c.args.t.now c.requires.0 c.requires.1 c.args.g c.requires.2 (mergeable c.args.s.now c.args.t.now c.requires.3) }
 
 pub returns : goal.returns
 returns c =
-    c.write_query.ensures ∙ merged_is c.args.s.now c.args.t.now c.requires.0 c.requires.1 c.args.g c.requires.2 (mergeable c.args.s.now c.args.t.now c.requires.3)
+    written_query _ _ _ c.merged_terms.ensures c.write.ensures ∙ merged_is c.args.s.now c.args.t.now c.requires.0 c.requires.1 c.args.g c.requires.2 (mergeable c.args.s.now c.args.t.now c.requires.3)

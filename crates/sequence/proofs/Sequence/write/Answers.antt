@@ -1,10 +1,10 @@
--- `enumeration::write_query` meets its contract.
+-- `Sequence::write` meets its contract.
 -- Assumes nothing.
 use mathlib.Core.Path.{ap, ◌∙◌}
 use native.Mathlib.Omega.{arith}
 use borrow.Rule.Slice.PartMut.{put_mid}
 use Rattle.cells.proofs.Laws.{headed}
-use Rattle.enumeration.proofs.write_query.Goals as goal
+use Rattle.sequence.proofs.Sequence.write.Goals as goal
 
 pub returns : goal.returns
 returns c =
