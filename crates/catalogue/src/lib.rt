@@ -71,20 +71,12 @@ pub fn synthesize(query: &[u8], out: &mut [u8]) -> Result<(), Refusal>
     Ok(())
 }
 
-fn wide(x: u8) -> u64
-    ensures { (result ≡ x) × (result < 256) }
-{
-    x as u64
-}
-
 // The first four terms as one number: a machine reads these eight bytes at once.
 pub fn word(s: &[u8]) -> u64
     requires { 12 ≤ length s.now }
     ensures { result ≡ word_of s.now }
 {
-    let low = wide(s[4]) + 256 * wide(s[5]) + 65536 * wide(s[6]) + 16777216 * wide(s[7]);
-    let high = wide(s[8]) + 256 * wide(s[9]) + 65536 * wide(s[10]) + 16777216 * wide(s[11]);
-    low + 4294967296 * high
+    u64::from_le_bytes([s[4], s[5], s[6], s[7], s[8], s[9], s[10], s[11]])
 }
 
 // Whether a record is one of the query: its first 260 bytes are the query's. Most records are told apart by the first four terms;
