@@ -28,7 +28,7 @@ fn all_below(s: &[u8], n: usize, m: u32) -> bool
     true
 }
 
-// Whether each of the first n cells from place k on is zero.
+// Whether each of the first n cells from place k on is zero. It is not the one of `sequence`, which reads an array and not cells of two bytes.
 fn zero_from(s: &[u8], k: usize, n: usize) -> bool
     requires { 2 * n ≤ length s.now }
     ensures { result ≡ zero_from k n (cells_from s.now 0 n) }
@@ -100,7 +100,8 @@ fn coefficient(terms: &[u32; TERMS], a: &[u8], j: usize) -> u64
     sum
 }
 
-// The first of n places where the product of the terms and a differs from b modulo m, or n. One division for each sum.
+// The first of n places where the product of the terms and a differs from b modulo m; n where there is none, as the definition and the clause
+// say. One division for each sum.
 fn first_difference(terms: &[u32; TERMS], a: &[u8], b: &[u8], n: usize, m: u32) -> usize
     requires { (n ≤ max_terms) × (0 < m) × (m < 65536) × (length terms.now ≡ max_terms) × (length a.now ≡ a_bytes) × (length b.now ≡ b_bytes) }
     ensures { result ≡ first_difference m terms.now (a_cells a.now) (b_cells b.now) n }

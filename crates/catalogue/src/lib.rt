@@ -24,7 +24,7 @@ pub const RECORD_BYTES: usize = NUMBER_PLACE + 2;
 // The length stands in this cell.
 pub const LENGTH_CELL: usize = QUERY_BYTES / 2;
 
-// Who asks: an editor is this number, a visitor any other.
+// Who asks: an editor is this number, a visitor any other. It stays a number, since the C interface hands it through.
 pub const EDITOR: u64 = 1;
 
 // The body of the record of a query with the sound sequence s. The part from byte 262 on is lent to the code that writes a register.
@@ -35,7 +35,7 @@ fn write_body(query: &[u8], s: &Sequence, out: &mut [u8])
     let x = s.solve();
     cells::copy(query, &mut out[0..QUERY_BYTES]);
     cells::put(&mut out[QUERY_BYTES..A_PLACE], 0, x.length);
-    sequence::write_register(x, &mut out[A_PLACE..NUMBER_PLACE]);
+    sequence::write_register(&x, &mut out[A_PLACE..NUMBER_PLACE]);
 }
 
 // 0 for an accession number.

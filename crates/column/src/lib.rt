@@ -8,8 +8,9 @@ ghost use Rattle.column.specs.Rules.{terms_in, took, each_of, push_all_of, push_
 
 use sequence::{MAX_TERMS, Refusal, Sequence};
 
-// How many terms were taken, the refusal if any, and the sequence as it is then: on a refusal too, since the terms before it stay.
-#[derive(Clone, Copy)]
+// How many terms were taken, the refusal if any, and the sequence as it is then: on a refusal too, since the terms before it stay. It is handed
+// in and back by value, so that an edit (old_sequence) can give back the one that came.
+#[derive(Clone, Copy, Debug, PartialEq, Eq)]
 pub struct PushedAll {
     pub sequence: Sequence,
     pub taken: usize,

@@ -1,5 +1,6 @@
 // The exports for C: each calls the function of `diverthrone` with its name and promises the same, clause for clause. A slice passes as a pointer and a
-// length; include/diverthrone.h has the declarations.
+// length; include/diverthrone.h has the declarations. They are twins of those of `diverthrone` since C needs exported names, and the claims about the
+// calls stand on a library.
 #![tactic(auto)]
 
 ghost use Rattle.std.specs.Prelude.{◌≡◌};

@@ -68,7 +68,7 @@ fn write_sequence(m: u32, n: u32, number: u64, k: u32, query: &mut [u8]) -> Resu
     ensures value { result ≡ number_in (Ok k) number }
     ensures query_after { query.new ≡ filled result (query_numbered m n number) query.old }
 {
-    if k as u64 <= number {
+    if u64::from(k) <= number {
         return Err(Refusal::Census);
     }
     let s = Sequence {

@@ -139,7 +139,7 @@ impl Line {
     }
 }
 
-// The line that answers a typed one, and whether the census goes on.
+// The line that answers a typed one, and whether the census goes on: there is a line either way, so that neither stands for the other.
 #[derive(Drop)]
 pub struct Answered {
     pub line: Line,

@@ -20,7 +20,7 @@ pub struct Replies {
     pub profiled: Result<(), Refusal>,
 }
 
-// One call, coded as a number: 0 is a register, 1 a profile, 2 a column of the list, n + 3 a push of n. Whether it is refused is not asked.
+// One call, coded as a number, as the claim about every list of codes has it (specs/Coded): 0 is a register, 1 a profile, 2 a column of the list, n + 3 a push of n. Whether it is refused is not asked.
 // Rejected: a register that is lent b as a and a as b.
 fn one(s: &mut Sequence, code: u32, list: &[u8], a: &mut [u8], b: &mut [u8], cells: &mut [u8])
     ensures { state_of s.new a.new b.new cells.new

@@ -14,7 +14,7 @@ ghost use Rattle.merge.specs.Rules.{divisor_of, merged_query, first_apart, compa
 use sequence::{QUERY_BYTES, Refusal, Sequence};
 use steps::TERMS;
 
-// The first of n places where the terms disagree modulo g, or n.
+// The first of n places where the terms disagree modulo g; n where there is none, as the definition and the clause say.
 fn first_apart(xs: &[u32; TERMS], ys: &[u32; TERMS], n: u32, g: u32) -> u32
     requires { (n ≤ max_terms) × (0 < g) × (length xs.now ≡ max_terms) × (length ys.now ≡ max_terms) }
     ensures { result ≡ first_apart g xs.now ys.now n }

@@ -15,7 +15,7 @@ const PERIODS: usize = 7;
 
 const MAX_PERIOD: usize = 64;
 
-// w where n is 2^w, one of the periods; else 7.
+// w where n is 2^w, one of the periods; else 7, as the definition and the clause say.
 fn exponent(n: usize) -> usize
     ensures { result ≡ exponent n }
 {
@@ -27,7 +27,7 @@ fn exponent(n: usize) -> usize
     PERIODS
 }
 
-// Loads the digits of n cells up to the first that is above 1, and says its place, or n.
+// Loads the digits of n cells up to the first that is above 1, and says its place; n where there is none, as the clause says.
 fn load(cells: &[u8], n: usize, digits: &mut [u32; MAX_PERIOD]) -> usize
     requires { (2 * n ≤ length cells.now) × (n ≤ max_period) × (length digits.old ≡ max_period) }
     ensures { (result ≡ first_large 2 (cells_from cells.now 0 n) n) × (length digits.new ≡ max_period)

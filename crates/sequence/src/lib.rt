@@ -34,7 +34,7 @@ const PROFILE_BYTES: usize = 2 * CELLS;
 const REGISTER_BYTES: usize = A_BYTES + B_BYTES;
 
 // A reading: terms past the count are zero.
-#[derive(Clone, Copy)]
+#[derive(Clone, Copy, Debug, PartialEq, Eq)]
 pub struct Sequence {
     pub modulus: u32,
     pub count: u32,
@@ -43,7 +43,7 @@ pub struct Sequence {
 
 // Why a call was not done, or the rest of a column. `Answers.refusal` has the paper's number of each. A wrong term, or digit of a period, has its place, counted from 0, and
 // so have the byte that breaks a typed line's form, the digit that passes its range, and two terms that disagree.
-#[derive(Clone, Copy)]
+#[derive(Clone, Copy, Debug, PartialEq, Eq)]
 pub enum Refusal {
     Modulus,
     Count,
@@ -68,7 +68,7 @@ pub enum Refusal {
 }
 
 // Whether the register is the only one of its length that generates the terms. It is told for a prime modulus, and for no other.
-#[derive(Clone, Copy)]
+#[derive(Clone, Copy, Debug, PartialEq, Eq)]
 pub enum Uniqueness {
     Sole,
     Several,
@@ -76,21 +76,21 @@ pub enum Uniqueness {
 }
 
 // What is reported of a register: its length, and whether it is the only one.
-#[derive(Clone, Copy)]
+#[derive(Clone, Copy, Debug, PartialEq, Eq)]
 pub struct Report {
     pub length: u32,
     pub uniqueness: Uniqueness,
 }
 
 // A trace's report, and how many records it has for the sheet.
-#[derive(Clone, Copy)]
+#[derive(Clone, Copy, Debug, PartialEq, Eq)]
 pub struct Worked {
     pub report: Report,
     pub count: usize,
 }
 
 // A refused opening hands back a sequence of zeros (01), so that there is one on a refusal too.
-#[derive(Clone, Copy)]
+#[derive(Clone, Copy, Debug, PartialEq, Eq)]
 pub struct Opened {
     pub sequence: Sequence,
     pub outcome: Result<(), Refusal>,
@@ -114,7 +114,7 @@ fn fresh(modulus: u32) -> Sequence
     }
 }
 
-// The first of n places whose term is not below the modulus, or n.
+// The first of n places whose term is not below the modulus; n where there is none, as the definition and the clause say.
 fn first_large(terms: &[u32; TERMS], n: u32, modulus: u32) -> u32
     requires { (n ≤ max_terms) × (length terms.now ≡ max_terms) }
     ensures { result ≡ first_large modulus terms.now n }
@@ -181,9 +181,9 @@ pub fn check(query: &[u8]) -> Result<Sequence, Refusal>
 }
 
 // Writes a to 258 bytes and b to the 256 after them: how a register stands in a record.
-pub fn write_register(x: Synthesis, out: &mut [u8])
-    requires { (length x.a ≡ max_cells) × (length x.b ≡ max_terms) × (length out.old ≡ register_bytes) }
-    ensures { out.new ≡ bytes_of x.a ++ bytes_of x.b }
+pub fn write_register(x: &Synthesis, out: &mut [u8])
+    requires { (length x.now.a ≡ max_cells) × (length x.now.b ≡ max_terms) × (length out.old ≡ register_bytes) }
+    ensures { out.new ≡ bytes_of x.now.a ++ bytes_of x.now.b }
 {
     cells::write(&mut out[0..A_BYTES], &x.a);
     cells::write(&mut out[A_BYTES..REGISTER_BYTES], &x.b);
@@ -205,10 +205,10 @@ fn uniqueness_of(prime: bool, n: u32, l: u32) -> Uniqueness
 }
 
 // Writes the register found for n terms, a to 129 cells and b to 128, and tells what is reported of it.
-fn write_report(x: Synthesis, n: u32, a: &mut [u8], b: &mut [u8]) -> Report
-    requires { (length x.a ≡ max_cells) × (length x.b ≡ max_terms) × (x.length ≤ max_terms) × (length a.old ≡ a_bytes) × (length b.old ≡ b_bytes) }
-    ensures { (result.length ≡ x.length) × (result.uniqueness ≡ uniqueness_by x.prime n x.length)
-        × (a.new ≡ bytes_of x.a) × (b.new ≡ bytes_of x.b) }
+fn write_report(x: &Synthesis, n: u32, a: &mut [u8], b: &mut [u8]) -> Report
+    requires { (length x.now.a ≡ max_cells) × (length x.now.b ≡ max_terms) × (x.now.length ≤ max_terms) × (length a.old ≡ a_bytes) × (length b.old ≡ b_bytes) }
+    ensures { (result.length ≡ x.now.length) × (result.uniqueness ≡ uniqueness_by x.now.prime n x.now.length)
+        × (a.new ≡ bytes_of x.now.a) × (b.new ≡ bytes_of x.now.b) }
 {
     cells::write(a, &x.a);
     cells::write(b, &x.b);
@@ -370,7 +370,7 @@ impl Sequence {
         }
         if self.is_sound() {
             let x = self.solve();
-            return Ok(write_report(x, self.count, a, b));
+            return Ok(write_report(&x, self.count, a, b));
         }
         Err(Refusal::Sequence)
     }
@@ -402,7 +402,7 @@ impl Sequence {
                 return Err(Refusal::Buffer);
             }
             let x = synthesis::trace(self.modulus, &self.terms, n, log);
-            let report = write_report(x, self.count, a, b);
+            let report = write_report(&x, self.count, a, b);
             return Ok(Worked { report, count });
         }
         Err(Refusal::Sequence)

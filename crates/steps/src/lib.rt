@@ -306,9 +306,9 @@ fn pack(x: StepRecord) -> u64
     requires { Narrow x }
     ensures { result ≡ packed x }
 {
-    let head = ((x.power as u64) * 128 + (x.k as u64)) * 16 + (x.row as u64);
-    let middle = (head * 256 + (x.length as u64)) * 16 + (x.u as u64);
-    ((middle * 65536 + (x.theta as u64)) * 16 + (x.g as u64)) * 4 + (x.case as u64)
+    let head = (u64::from(x.power) * 128 + u64::from(x.k)) * 16 + u64::from(x.row);
+    let middle = (head * 256 + u64::from(x.length)) * 16 + u64::from(x.u);
+    ((middle * 65536 + u64::from(x.theta)) * 16 + u64::from(x.g)) * 4 + u64::from(x.case)
 }
 
 #[tactic(auto, unfolding(crate::specs::Log::unpacked))]

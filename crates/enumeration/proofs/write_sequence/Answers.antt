@@ -5,10 +5,10 @@ use native.Mathlib.Omega.{arith}
 use Rattle.enumeration.proofs.Laws.{Legal, counted, number_refused, number_taken, query_is}
 use Rattle.enumeration.proofs.write_sequence.Goals as goal
 
-pub returns-then-k-number : goal.returns-then-k-number
-returns-then-k-number c =
+pub returns-then-from-number : goal.returns-then-from-number
+returns-then-from-number c =
     let a = c.args in
-    record { value = number_refused a.k a.number (omega (arith, c.if-k-number.true)); query_after = refl }
+    record { value = number_refused a.k a.number (omega (arith, c.if-from-number.true)); query_after = refl }
 
 pub overflow_cast-number : goal.overflow_cast-number
 overflow_cast-number c =
@@ -23,4 +23,4 @@ digits-requires c =
 pub returns : goal.returns
 returns c =
     let a = c.args in
-    record { value = number_taken a.k a.number (omega (arith, c.if-k-number.false)); query_after = query_is _ _ _ c.digits.ensures c.write.ensures }
+    record { value = number_taken a.k a.number (omega (arith, c.if-from-number.false)); query_after = query_is _ _ _ c.digits.ensures c.write.ensures }
