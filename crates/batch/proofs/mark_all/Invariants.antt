@@ -1,6 +1,6 @@
 -- `batch::mark_all` meets its contract: the queries below i are marked.
 -- Assumes nothing.
-use Prim.Native.Nat.{◌-◌, ◌≤◌}
+use Prim.Native.Nat.{◌≤◌}
 use Rattle.batch.specs.Inner.{Marked}
 use Rattle.batch.proofs.mark_all.Given as goal
 

@@ -1,6 +1,6 @@
 -- `batch::walk` meets its contract: after j records the first match among them, or none, is held for each query.
 -- Assumes nothing.
-use Prim.Native.Nat.{◌-◌, ◌≤◌}
+use Prim.Native.Nat.{◌≤◌}
 use Rattle.batch.specs.Walk.{Holding}
 use Rattle.batch.proofs.walk.Given as goal
 
