@@ -41,13 +41,6 @@ fits_out q o r h = eqb-true _ _ (both_left (eqb o (q / query_bytes * record_byte
 pub fits_replies : (q o r : ℕ) → lengths_fit q o r ≡ true → r ≡ q / query_bytes
 fits_replies q o r h = eqb-true _ _ (both_right (eqb o (q / query_bytes * record_bytes)) _ (both_right (eqb (q % query_bytes) 0) _ h))
 
-pub fits_no : (q o r : ℕ) → (o ≡ q / query_bytes * record_bytes → r ≡ q / query_bytes → ⊥) → false ≡ lengths_fit q o r
-fits_no q o r h = go (lengths_fit q o r) refl
-  where
-    go : (b : Bool) → lengths_fit q o r ≡ b → false ≡ b
-    go true e = absurd (h (fits_out q o r e) (fits_replies q o r e))
-    go false e = refl
-
 -- where the whole call is not refused, all lengths are right
 pub record Right (q c o r : ℕ) : Type 0 where
   pub sized : lengths_fit q o r ≡ true
