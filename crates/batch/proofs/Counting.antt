@@ -1,67 +1,75 @@
 -- Every query of a batch is counted once: found, made or refused.
 -- Assumes nothing.
-use mathlib.Core.Path.{◌≡◌, refl, ap, ◌∙◌}
-use mathlib.Core.List.{List}
+use mathlib.Core.Path.{◌≡◌, refl, sym, ap, ◌∙◌}
+use mathlib.Core.Bool.{Bool, cond}
+use mathlib.Core.List.{List, [], ◌∷◌}
 use Prim.Native.Nat.{ℕ, zero, suc, ◌+◌, ◌%◌}
 use native.Mathlib.Omega.{arith}
+use lib.ListN.{length}
 use borrow.Author.Tests.{eq-eqb, ne_eqb}
-use Rattle.std.specs.Prelude.{Some, None, Ok, Err}
+use Rattle.std.specs.Prelude.{count_by, Some, None, Ok, Err}
+use Rattle.std.specs.List.{sum_by}
+use Rattle.std.proofs.lemmas.List.Sums.{sum_by-cons}
 use Rattle.lists.specs.Sum.{sum_to}
 use Rattle.lists.specs.Table.{at}
-use Rattle.lists.proofs.Sum.{sum_to_eq}
-use Rattle.sequence.specs.declared.Refusal.{Refusal}
+use Rattle.lists.proofs.Sum.{sum_to_eq, sum_to_head}
 use Rattle.sequence.specs.Answers.{refusal}
 use Rattle.codes.specs.Codes.{code_of}
 use Rattle.codes.proofs.Laws.{code_refused}
 use Rattle.batch.specs.Rules.{query_at, queries_in, alone_of, reply_code, is_found, is_made, is_refused, count_kind}
-use Rattle.batch.specs.Inner.{kind_of, one_of_kind, of_kind, Answered}
+use Rattle.batch.specs.Inner.{says_found, says_made, says_refused, tally_of, Answered}
 use Rattle.catalogue.specs.Rules.{LookedUp}
 
--- ---- the kinds of replies
+-- ---- what the code counts
 
-kind_found : (i : ℕ) → kind_of (reply_code (Ok (Some i))) ≡ 1
-kind_found i = rw (ne_eqb (reply_code (Ok (Some i))) 0 (λ e. omega arith), eq-eqb (reply_code (Ok (Some i)) % 256) 0 (omega arith))
-
-kind_refused : (r : Refusal) → kind_of (reply_code (Err r)) ≡ 2
-kind_refused r =
+-- the reply to a query says what it is
+found_said : (t : LookedUp) → cond (says_found (reply_code t)) 1 0 ≡ is_found t
+found_said (Ok None) = refl
+found_said (Ok (Some i)) = rw (ne_eqb (reply_code (Ok (Some i))) 0 (λ e. omega arith), eq-eqb (reply_code (Ok (Some i)) % 256) 0 (omega arith))
+found_said (Err r) =
     rw (
       ne_eqb (code_of (refusal r)) 0 (λ e. code_refused r (let z : code_of (refusal r) % 256 ≡ 0 = omega (arith, e) in z)),
       ne_eqb (code_of (refusal r) % 256) 0 (code_refused r),
     )
 
-one_found : (t : LookedUp) → one_of_kind 1 (reply_code t) ≡ is_found t
-one_found (Ok None) = refl
-one_found (Ok (Some i)) = rw (kind_found i)
-one_found (Err r) = rw (kind_refused r)
+made_said : (t : LookedUp) → cond (says_made (reply_code t)) 1 0 ≡ is_made t
+made_said (Ok None) = refl
+made_said (Ok (Some i)) = rw (ne_eqb (reply_code (Ok (Some i))) 0 (λ e. omega arith))
+made_said (Err r) = rw (ne_eqb (code_of (refusal r)) 0 (λ e. code_refused r (let z : code_of (refusal r) % 256 ≡ 0 = omega (arith, e) in z)))
 
-one_made : (t : LookedUp) → one_of_kind 0 (reply_code t) ≡ is_made t
-one_made (Ok None) = refl
-one_made (Ok (Some i)) = rw (kind_found i)
-one_made (Err r) = rw (kind_refused r)
+refused_said : (t : LookedUp) → cond (says_refused (reply_code t)) 1 0 ≡ is_refused t
+refused_said (Ok None) = refl
+refused_said (Ok (Some i)) = rw (eq-eqb (reply_code (Ok (Some i)) % 256) 0 (omega arith))
+refused_said (Err r) = rw (ne_eqb (code_of (refusal r) % 256) 0 (code_refused r))
 
-one_refused : (t : LookedUp) → one_of_kind 2 (reply_code t) ≡ is_refused t
-one_refused (Ok None) = refl
-one_refused (Ok (Some i)) = rw (kind_found i)
-one_refused (Err r) = rw (kind_refused r)
-
--- ---- what the code counts
+-- a sum over a list is one over its places
+sum_by_places : (f : ℕ → ℕ) (xs : List ℕ) → sum_by f xs ≡ sum_to (length xs) (λ i. f (at xs i))
+unfolding sum_to
+sum_by_places f [] = refl
+sum_by_places f (x ∷ xs) =
+    sum_by-cons f x xs ∙ ap (λ (n : ℕ). f x + n) (sum_by_places f xs) ∙ sym (sum_to_head (length xs) (λ i. f (at (x ∷ xs) i)))
 
 module _ (who : ℕ) (queries catalogue out replies : List ℕ) (a : Answered who queries catalogue out replies) where
-  counted : (k : ℕ) (kind : LookedUp → ℕ) → ((t : LookedUp) → one_of_kind k (reply_code t) ≡ kind t) → of_kind k replies ≡ count_kind kind queries catalogue
+  counted : (says : ℕ → Bool) (kind : LookedUp → ℕ) → ((t : LookedUp) → cond (says (reply_code t)) 1 0 ≡ kind t) → count_by says replies ≡ count_kind kind queries catalogue
   unfolding count_kind
-  counted k kind same =
-      ap (λ (n : ℕ). sum_to n (λ i. one_of_kind k (at replies i))) a.many
-      ∙ sum_to_eq (queries_in queries) (λ i. one_of_kind k (at replies i)) (λ i. kind (alone_of (query_at queries i) catalogue))
-      (λ i h. ap (one_of_kind k) (a.told i h) ∙ same (alone_of (query_at queries i) catalogue))
+  counted says kind same =
+      sum_by_places (λ r. cond (says r) 1 0) replies
+      ∙ ap (λ (n : ℕ). sum_to n (λ i. cond (says (at replies i)) 1 0)) a.many
+      ∙ sum_to_eq (queries_in queries) (λ i. cond (says (at replies i)) 1 0) (λ i. kind (alone_of (query_at queries i) catalogue))
+      (λ i h. ap (λ (r : ℕ). cond (says r) 1 0) (a.told i h) ∙ same (alone_of (query_at queries i) catalogue))
 
-  pub found_counted : of_kind 1 replies ≡ count_kind is_found queries catalogue
-  found_counted = counted 1 is_found one_found
-
-  pub made_counted : of_kind 0 replies ≡ count_kind is_made queries catalogue
-  made_counted = counted 0 is_made one_made
-
-  pub refused_counted : of_kind 2 replies ≡ count_kind is_refused queries catalogue
-  refused_counted = counted 2 is_refused one_refused
+  pub tallied :
+      tally_of replies
+      ≡ record {
+        found = count_kind is_found queries catalogue;
+        made = count_kind is_made queries catalogue;
+        refused = count_kind is_refused queries catalogue;
+      }
+  tallied = λ i. record {
+    found = counted says_found is_found found_said i;
+    made = counted says_made is_made made_said i;
+    refused = counted says_refused is_refused refused_said i;
+  }
 
 -- ---- each query is counted once
 

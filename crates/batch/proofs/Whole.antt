@@ -25,10 +25,10 @@ use Rattle.codes.proofs.Laws.{counts_refused}
 use Rattle.batch.specs.declared.Batch.{Batch}
 use Rattle.batch.specs.Rules.{max_queries, query_at, queries_in, alone_of, part_of, reply_code, is_found, is_made, is_refused, count_kind, lengths_fit, refused_by, refused_whole, reply_by, look_up_batch_of, batch_answer, look_up_batch_answer, parts_in, replies_in, outcome_of}
 use Rattle.batch.specs.Walk.{held_of, held_part, Holding}
-use Rattle.batch.specs.Inner.{check_code, offered_part, offered_code, Offered, Answered, settled_part, settled_code, Settled, of_kind}
+use Rattle.batch.specs.Inner.{check_code, offered_part, offered_code, Offered, Answered, settled_part, settled_code, Settled, tally_of}
 use Rattle.batch.proofs.Parts.{zero_part, is_end_to_end}
 use Rattle.batch.proofs.Holding.{held_start, held_next, held_end}
-use Rattle.batch.proofs.Counting.{found_counted, made_counted, refused_counted, all_counted}
+use Rattle.batch.proofs.Counting.{tallied, all_counted}
 
 -- ---- the lengths
 
@@ -40,13 +40,6 @@ fits_out q o r h = eqb-true _ _ (both_left (eqb o (q / query_bytes * record_byte
 
 pub fits_replies : (q o r : ℕ) → lengths_fit q o r ≡ true → r ≡ q / query_bytes
 fits_replies q o r h = eqb-true _ _ (both_right (eqb o (q / query_bytes * record_bytes)) _ (both_right (eqb (q % query_bytes) 0) _ h))
-
-pub fits_no : (q o r : ℕ) → (o ≡ q / query_bytes * record_bytes → r ≡ q / query_bytes → ⊥) → false ≡ lengths_fit q o r
-fits_no q o r h = go (lengths_fit q o r) refl
-  where
-    go : (b : Bool) → lengths_fit q o r ≡ b → false ≡ b
-    go true e = absurd (h (fits_out q o r e) (fits_replies q o r e))
-    go false e = refl
 
 -- where the whole call is not refused, all lengths are right
 pub record Right (q c o r : ℕ) : Type 0 where
@@ -173,10 +166,9 @@ module _ (queries catalogue out replies : List ℕ) (who : ℕ) where
       record { value = same; out_after = refl; replies_after = refl; result_value = ap batch_answer same ∙ answer_told queries catalogue out replies }
 
   pub done_told :
-      {o : Outcome} {f m x : ℕ} {out' replies' : List ℕ} → o ≡ refused_whole (length queries) (length catalogue) (length out) (length replies) → o ≡ Ok tt
-      → Answered who queries catalogue out' replies' → f ≡ of_kind 1 replies' → m ≡ of_kind 0 replies' → x ≡ of_kind 2 replies'
-      → Told queries catalogue out replies who (Ok (record { found = f; made = m; refused = x })) out' replies'
-  done_told {o} {f} {m} {x} {out'} {replies'} e k a ef em ex =
+      {o : Outcome} {b : Batch} {out' replies' : List ℕ} → o ≡ refused_whole (length queries) (length catalogue) (length out) (length replies) → o ≡ Ok tt
+      → Answered who queries catalogue out' replies' → b ≡ tally_of replies' → Told queries catalogue out replies who (Ok b) out' replies'
+  done_told {o} {b} {out'} {replies'} e k a t =
       record {
         value = same;
         out_after = is_end_to_end (queries_in queries) (λ i. part_of who (query_at queries i) catalogue) out' a.wide a.shown;
@@ -184,16 +176,10 @@ module _ (queries catalogue out replies : List ℕ) (who : ℕ) where
         result_value = ap batch_answer same ∙ answer_told queries catalogue out replies;
       }
     where
-      counts : ◌≡◌ {A = Result Batch Refusal} (Ok (record { found = f; made = m; refused = x }))
-          (reply_by (Ok tt) (count_kind is_found queries catalogue) (count_kind is_made queries catalogue) (count_kind is_refused queries catalogue))
-      counts = λ i. Ok (record {
-        found = (ef ∙ found_counted who queries catalogue out' replies' a) i;
-        made = (em ∙ made_counted who queries catalogue out' replies' a) i;
-        refused = (ex ∙ refused_counted who queries catalogue out' replies' a) i;
-      })
-
-      same : ◌≡◌ {A = Result Batch Refusal} (Ok (record { found = f; made = m; refused = x })) (look_up_batch_of queries catalogue out replies)
-      same = counts ∙ sym (reply_by_lem queries catalogue out replies (Ok tt) (sym e ∙ k))
+      same : ◌≡◌ {A = Result Batch Refusal} (Ok b) (look_up_batch_of queries catalogue out replies)
+      same =
+          ap (λ (x : Batch). Ok x) (t ∙ tallied who queries catalogue out' replies' a)
+          ∙ sym (reply_by_lem queries catalogue out replies (Ok tt) (sym e ∙ k))
 
 -- ---- the counts
 

@@ -1,8 +1,7 @@
 -- What the functions inside do at each record and after the last, for their contracts. No claim speaks of it.
 -- Assumes nothing.
-use Rattle.std.specs.Prelude.{◌≡◌, Bool, List, ℕ, ◌+◌, ◌*◌, ◌%◌, ◌<◌, eqb, length, Ok, Err}
+use Rattle.std.specs.Prelude.{◌≡◌, Bool, not, List, ℕ, ◌+◌, ◌*◌, ◌%◌, ◌<◌, eqb, length, count_by, Ok, Err}
 use Rattle.lists.specs.Choice.{pick, both}
-use Rattle.lists.specs.Sum.{sum_to}
 use Rattle.lists.specs.Table.{at}
 use Rattle.sequence.specs.declared.Sequence.{Sequence}
 use Rattle.sequence.specs.declared.Refusal.TheVariants as R
@@ -11,6 +10,7 @@ use Rattle.sequence.specs.Rules.{sequence_of, check_of}
 use Rattle.catalogue.specs.Word.{word_of}
 use Rattle.catalogue.specs.Rules.{record_of, record_at, is_of, passes, seen_by}
 use Rattle.codes.specs.Codes.{code_of}
+use Rattle.batch.specs.declared.Batch.{Batch}
 use Rattle.batch.specs.Rules.{query_at, queries_in, zero_record, alone_of, part_of, reply_code}
 use Rattle.batch.specs.Walk.{Standing}
 
@@ -83,12 +83,16 @@ Settled queries out replies =
 
 -- ---- counting the replies
 
--- the kind of a reply that is one number: 0 made, 1 found, 2 refused; and 1 where it is of kind k
-abbrev pub kind_of : ℕ → ℕ
-kind_of reply = pick (eqb reply 0) 0 (pick (eqb (reply % 256) 0) 1 2)
+-- what a reply says that is one number
+abbrev pub says_found : ℕ → Bool
+says_found reply = both (not (eqb reply 0)) (eqb (reply % 256) 0)
 
-abbrev pub one_of_kind : ℕ → ℕ → ℕ
-one_of_kind k reply = pick (eqb (kind_of reply) k) 1 0
+abbrev pub says_made : ℕ → Bool
+says_made reply = eqb reply 0
 
-abbrev pub of_kind : ℕ → List ℕ → ℕ
-of_kind k replies = sum_to (length replies) (λ i. one_of_kind k (at replies i))
+abbrev pub says_refused : ℕ → Bool
+says_refused reply = not (eqb (reply % 256) 0)
+
+-- how many of the replies say so
+abbrev pub tally_of : List ℕ → Batch
+tally_of replies = record { found = count_by says_found replies; made = count_by says_made replies; refused = count_by says_refused replies }

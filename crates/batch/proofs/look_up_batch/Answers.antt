@@ -20,5 +20,4 @@ answer_all-requires c =
 pub returns : goal.returns
 returns c =
     let s = c.args in
-    done_told s.queries.now s.catalogue.now s.out.now s.replies.now s.who c.refused_whole.ensures c.in_ok-refused_whole.was c.answer_all.ensures
-    c.count.ensures c.count-2.ensures c.count-3.ensures
+    done_told s.queries.now s.catalogue.now s.out.now s.replies.now s.who c.refused_whole.ensures c.in_ok-refused_whole.was c.answer_all.ensures c.tally.ensures

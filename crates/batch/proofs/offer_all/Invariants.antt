@@ -1,7 +1,5 @@
 -- `batch::offer_all` meets its contract: the queries below i were offered the record, the others hold what they held.
 -- Assumes nothing.
-use Prim.Native.Nat.{◌-◌}
-use Rattle.batch.specs.Rules.{queries_in}
 use Rattle.batch.proofs.Turns.{Offering}
 use Rattle.batch.proofs.offer_all.Given as goal
 

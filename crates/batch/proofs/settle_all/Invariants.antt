@@ -1,7 +1,5 @@
 -- `batch::settle_all` meets its contract: the queries below i are settled, the others hold what they held.
 -- Assumes nothing.
-use Prim.Native.Nat.{◌-◌}
-use Rattle.batch.specs.Rules.{queries_in}
 use Rattle.batch.proofs.Turns.{Settling}
 use Rattle.batch.proofs.settle_all.Given as goal
 
