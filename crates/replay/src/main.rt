@@ -80,8 +80,10 @@ struct Call {
     l: u16,
 }
 
-impl Call {
-    fn parse(h: &[u8; 16]) -> Result<Call, Stop> {
+impl TryFrom<[u8; 16]> for Call {
+    type Error = Stop;
+
+    fn try_from(h: [u8; 16]) -> Result<Call, Stop> {
         Ok(Call {
             operation: Operation::try_from(h[0])?,
             fill: h[1],
@@ -181,13 +183,18 @@ impl Reply for Batch {
     }
 }
 
+// A buffer that a call writes to, with a byte in each place.
+fn filled(room: &mut [u8; ROOM], length: u16, byte: u8) -> &mut [u8] {
+    let part = &mut room[..usize::from(length)];
+    part.fill(byte);
+    part
+}
+
 // An FNV-1a hash of 32 bits with more bytes in it.
 fn mixed(hash: u32, bytes: &[u8]) -> u32 {
-    let mut h = hash;
-    for byte in bytes {
-        h = (h ^ u32::from(*byte)).wrapping_mul(FACTOR);
-    }
-    h
+    bytes
+        .iter()
+        .fold(hash, |h, b| (h ^ u32::from(*b)).wrapping_mul(FACTOR))
 }
 
 fn hash(bytes: &[u8]) -> u32 {
@@ -202,22 +209,15 @@ fn mixed_cell(hash: u32, v: u32) -> u32 {
 
 // The hash of the 260 bytes that write a sequence down.
 fn hash_sequence(s: &Sequence) -> u32 {
-    let mut h = mixed_cell(mixed_cell(START, s.modulus), s.count);
-    for term in &s.terms {
-        h = mixed_cell(h, *term);
-    }
-    h
+    let start = mixed_cell(mixed_cell(START, s.modulus), s.count);
+    s.terms.iter().fold(start, |h, t| mixed_cell(h, *t))
 }
 
 // A record's eight numbers more.
 fn mixed_record(hash: u32, x: StepRecord) -> u32 {
-    let place = mixed(mixed(hash, &x.power.to_le_bytes()), &x.k.to_le_bytes());
-    let row = mixed(mixed(place, &x.row.to_le_bytes()), &x.length.to_le_bytes());
-    let discrepancy = mixed(mixed(row, &x.u.to_le_bytes()), &x.theta.to_le_bytes());
-    mixed(
-        mixed(discrepancy, &x.g.to_le_bytes()),
-        &x.case.to_le_bytes(),
-    )
+    [x.power, x.k, x.row, x.length, x.u, x.theta, x.g, x.case]
+        .iter()
+        .fold(hash, |h, n| mixed(h, &n.to_le_bytes()))
 }
 
 // The hash of the first records of a log.
@@ -233,11 +233,9 @@ fn hash_log(log: &[u64; LOG], count: usize) -> u32
 
 // The hash of the bytes of numbers, eight for each.
 fn hash_numbers(numbers: &[u64]) -> u32 {
-    let mut h = START;
-    for number in numbers {
-        h = mixed(h, &number.to_le_bytes());
-    }
-    h
+    numbers
+        .iter()
+        .fold(START, |h, n| mixed(h, &n.to_le_bytes()))
 }
 
 // Reader, writer and the sequence that is held.
@@ -262,6 +260,13 @@ impl<R: Read, W: Write> Replay<R, W> {
         let mut bytes = [0u8; N];
         self.read(&mut bytes)?;
         Ok(bytes)
+    }
+
+    // The bytes that a call is handed.
+    fn handed<'a>(&mut self, room: &'a mut [u8; ROOM], length: u16) -> Result<&'a [u8], Stop> {
+        let part = &mut room[..usize::from(length)];
+        self.read(part)?;
+        Ok(part)
     }
 
     // Writes the line of a call: what stands before the reply, the reply, and hashes.
@@ -303,18 +308,15 @@ impl<R: Read, W: Write> Replay<R, W> {
     fn register(&mut self, c: Call) -> Result<(), Stop> {
         let mut a = [0u8; ROOM];
         let mut b = [0u8; ROOM];
-        let a = &mut a[..usize::from(c.x)];
-        a.fill(c.fill);
-        let b = &mut b[..usize::from(c.y)];
-        b.fill(c.fill);
+        let a = filled(&mut a, c.x, c.fill);
+        let b = filled(&mut b, c.y, c.fill);
         let r = self.sequence.register(a, b);
         self.line(b"register ", r, &[hash(a), hash(b)])
     }
 
     fn profile(&mut self, c: Call) -> Result<(), Stop> {
         let mut cells = [0u8; ROOM];
-        let cells = &mut cells[..usize::from(c.x)];
-        cells.fill(c.fill);
+        let cells = filled(&mut cells, c.x, c.fill);
         let r = self.sequence.profile(cells);
         self.line(b"profile ", r, &[hash(cells)])
     }
@@ -323,12 +325,9 @@ impl<R: Read, W: Write> Replay<R, W> {
         let mut query = [0u8; ROOM];
         let mut a = [0u8; ROOM];
         let mut b = [0u8; ROOM];
-        let query = &mut query[..usize::from(c.x)];
-        let a = &mut a[..usize::from(c.y)];
-        let b = &mut b[..usize::from(c.z)];
-        self.read(query)?;
-        self.read(a)?;
-        self.read(b)?;
+        let query = self.handed(&mut query, c.x)?;
+        let a = self.handed(&mut a, c.y)?;
+        let b = self.handed(&mut b, c.z)?;
         let r = candidate::verify(query, a, b, c.number);
         self.line(b"verify ", r.map(Verdict), &[])
     }
@@ -337,12 +336,9 @@ impl<R: Read, W: Write> Replay<R, W> {
         let mut a = [0u8; ROOM];
         let mut b = [0u8; ROOM];
         let mut cells = [0u8; ROOM];
-        let a = &mut a[..usize::from(c.x)];
-        let b = &mut b[..usize::from(c.y)];
-        let cells = &mut cells[..usize::from(c.z)];
-        cells.fill(c.fill);
-        self.read(a)?;
-        self.read(b)?;
+        let cells = filled(&mut cells, c.z, c.fill);
+        let a = self.handed(&mut a, c.x)?;
+        let b = self.handed(&mut b, c.y)?;
         let r = candidate::generate(c.number, a, b, u32::from(c.l), cells);
         self.line(b"generate ", r, &[hash(cells)])
     }
@@ -350,10 +346,8 @@ impl<R: Read, W: Write> Replay<R, W> {
     fn synthesize(&mut self, c: Call) -> Result<(), Stop> {
         let mut query = [0u8; ROOM];
         let mut entry = [0u8; ROOM];
-        let query = &mut query[..usize::from(c.x)];
-        let entry = &mut entry[..usize::from(c.y)];
-        entry.fill(c.fill);
-        self.read(query)?;
+        let entry = filled(&mut entry, c.y, c.fill);
+        let query = self.handed(&mut query, c.x)?;
         let r = catalogue::synthesize(query, entry);
         self.line(b"synthesize ", r, &[hash(entry)])
     }
@@ -362,12 +356,9 @@ impl<R: Read, W: Write> Replay<R, W> {
         let mut query = [0u8; ROOM];
         let mut records = [0u8; ROOM];
         let mut entry = [0u8; ROOM];
-        let query = &mut query[..usize::from(c.x)];
-        let records = &mut records[..usize::from(c.y)];
-        let entry = &mut entry[..usize::from(c.z)];
-        entry.fill(c.fill);
-        self.read(query)?;
-        self.read(records)?;
+        let entry = filled(&mut entry, c.z, c.fill);
+        let query = self.handed(&mut query, c.x)?;
+        let records = self.handed(&mut records, c.y)?;
         let r = catalogue::look_up(query, records, u64::from(c.number), entry);
         self.line(b"look_up ", r.map(Place), &[hash(entry)])
     }
@@ -387,10 +378,8 @@ impl<R: Read, W: Write> Replay<R, W> {
         let mut a = [0u8; ROOM];
         let mut b = [0u8; ROOM];
         let mut log = [0u64; LOG];
-        let a = &mut a[..usize::from(c.x)];
-        a.fill(c.fill);
-        let b = &mut b[..usize::from(c.y)];
-        b.fill(c.fill);
+        let a = filled(&mut a, c.x, c.fill);
+        let b = filled(&mut b, c.y, c.fill);
         let r = self.sequence.work(a, b, c.number as usize, &mut log);
         let records = match r {
             Ok(w) => hash_log(&log, w.count),
@@ -402,18 +391,15 @@ impl<R: Read, W: Write> Replay<R, W> {
     fn read_line(&mut self, c: Call) -> Result<(), Stop> {
         let mut line = [0u8; ROOM];
         let mut query = [0u8; ROOM];
-        let line = &mut line[..usize::from(c.x)];
-        let query = &mut query[..usize::from(c.y)];
-        query.fill(c.fill);
-        self.read(line)?;
+        let query = filled(&mut query, c.y, c.fill);
+        let line = self.handed(&mut line, c.x)?;
         let r = lines::read_line(line, query);
         self.line(b"read_line ", r, &[hash(query)])
     }
 
     fn push_all(&mut self, c: Call) -> Result<(), Stop> {
         let mut list = [0u8; ROOM];
-        let list = &mut list[..usize::from(c.x)];
-        self.read(list)?;
+        let list = self.handed(&mut list, c.x)?;
         let p = column::push_all(self.sequence, list);
         self.sequence = p.sequence;
         printing::text(&mut self.out, b"push_all taken ")?;
@@ -425,28 +411,23 @@ impl<R: Read, W: Write> Replay<R, W> {
         let mut first = [0u8; ROOM];
         let mut second = [0u8; ROOM];
         let mut query = [0u8; ROOM];
-        let first = &mut first[..usize::from(c.x)];
-        let second = &mut second[..usize::from(c.y)];
-        let query = &mut query[..usize::from(c.z)];
-        query.fill(c.fill);
-        self.read(first)?;
-        self.read(second)?;
+        let query = filled(&mut query, c.z, c.fill);
+        let first = self.handed(&mut first, c.x)?;
+        let second = self.handed(&mut second, c.y)?;
         let r = merge::merge(first, second, query);
         self.line(b"merge ", r, &[hash(query)])
     }
 
     fn period_length(&mut self, c: Call) -> Result<(), Stop> {
         let mut cells = [0u8; ROOM];
-        let cells = &mut cells[..usize::from(c.x)];
-        self.read(cells)?;
+        let cells = self.handed(&mut cells, c.x)?;
         let r = period::period_length(cells);
         self.line(b"period_length ", r, &[hash(cells)])
     }
 
     fn enumerate(&mut self, c: Call) -> Result<(), Stop> {
         let mut query = [0u8; ROOM];
-        let query = &mut query[..usize::from(c.x)];
-        query.fill(c.fill);
+        let query = filled(&mut query, c.x, c.fill);
         let count = u32::from_le_bytes(self.read_array()?);
         let number = u64::from_le_bytes(self.read_array()?);
         let r = enumeration::enumerate(c.number, count, number, query);
@@ -455,8 +436,7 @@ impl<R: Read, W: Write> Replay<R, W> {
 
     fn tally(&mut self, c: Call) -> Result<(), Stop> {
         let mut cells = [0u8; ROOM];
-        let cells = &mut cells[..usize::from(c.x)];
-        cells.fill(c.fill);
+        let cells = filled(&mut cells, c.x, c.fill);
         let count = u32::from_le_bytes(self.read_array()?);
         let r = enumeration::tally(c.number, count, cells);
         self.line(b"tally ", r, &[hash(cells)])
@@ -468,14 +448,11 @@ impl<R: Read, W: Write> Replay<R, W> {
         let mut records = [0u8; ROOM];
         let mut entries = [0u8; ROOM];
         let mut replies = [0u64; ROOM];
-        let queries = &mut queries[..usize::from(c.x)];
-        let records = &mut records[..usize::from(c.y)];
-        let entries = &mut entries[..usize::from(c.z)];
-        entries.fill(c.fill);
+        let entries = filled(&mut entries, c.z, c.fill);
         let replies = &mut replies[..usize::from(c.l)];
         replies.fill(u64::from_le_bytes([c.fill; 8]));
-        self.read(queries)?;
-        self.read(records)?;
+        let queries = self.handed(&mut queries, c.x)?;
+        let records = self.handed(&mut records, c.y)?;
         let r = batch::look_up_batch(queries, records, u64::from(c.number), entries, replies);
         self.line(
             b"look_up_batch ",
@@ -516,7 +493,7 @@ impl<R: Read, W: Write> Replay<R, W> {
         if n < header.len() {
             return Err(Stop::CutShort);
         }
-        self.make(Call::parse(&header)?)
+        self.make(Call::try_from(header)?)
     }
 
     // Tells why the calls stop.
