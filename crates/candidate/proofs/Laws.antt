@@ -4,7 +4,7 @@ use mathlib.Core.Path.{◌≡◌, refl, sym, ap, ap₂, ◌∙◌}
 use mathlib.Core.Bool.{Bool, true, false, not}
 use mathlib.Core.List.{List}
 use Prim.Native.Nat.{ℕ, zero, suc, ◌+◌, ◌*◌, ◌-◌, ◌%◌, ◌≤◌, ◌<◌, min}
-use native.Mathlib.Nat.{mod-mod, mul-le-mul}
+use native.Mathlib.Nat.{mod-mod}
 use native.Mathlib.Numerals.{add-one}
 use native.Mathlib.Omega.{arith}
 use lib.Dec.{ltb, eqb}
@@ -55,12 +55,6 @@ fits_of m l a b h =
     past : both (zero_from (l + 1) max_cells a) (zero_from l max_terms b) ≡ true
     past = both_right (all_below m max_terms b) _ below
 
--- the last of the four tests decides where the others passed
-pub fits_last :
-    (m l : ℕ) (a b : List ℕ) {r : Bool} → all_below m max_cells a ≡ true → all_below m max_terms b ≡ true → zero_from (l + 1) max_cells a ≡ true
-    → r ≡ zero_from l max_terms b → r ≡ fits m l a b
-fits_last m l a b x y z e = rw (x, y, z) e
-
 -- each of the three refusals with its condition, or none of them
 pub data Found (m l : ℕ) (a b : List ℕ) (o : Outcome) : Type 0 where
   long : max_terms < l → o ≡ Err R.CandidateLength → Found m l a b o
@@ -94,10 +88,6 @@ fine_of m l a b h = go (found m l a b)
 
 -- ---- the loops that sum products
 
--- a product of a 16-bit and a 32-bit number fits 48 bits
-pub product_small : (x y : ℕ) → x < 65536 → y < 4294967296 → x * y ≤ two48
-product_small x y h k = mul-le-mul {n₁ = x} {m₁ = y} {n₂ = 65536} {m₂ = 4294967296} (omega arith) (omega arith)
-
 -- the sum of the first i products by the rule f: it fits while i is small
 pub record Summed (f : ℕ → ℕ) (i sum : ℕ) : Type 0 where
   pub is : sum ≡ sum_to i f
@@ -119,13 +109,12 @@ places S a j = summand (at a) (at S) j
 pub is_place : (S a : List ℕ) (j i x r : ℕ) → i < max_cells → x ≡ cell_at a i → r ≡ x * at S (j - i) → r ≡ places S (cells_from a 0 max_cells) j i
 is_place S a j i x r h e p = p ∙ ap (λ (z : ℕ). z * at S (j - i)) (e ∙ sym (at_cells a max_cells i h))
 
--- the test of place j, once its products are summed
-module _ (S a b : List ℕ) (m j i sum r x : ℕ) (s : Summed (places S a j) i sum) (past : j < i) (within : i ≤ j + 1) (d : r ≡ sum % m) (e : x ≡ at b j) where
-  whole : sum ≡ conv (at S) (at a) j
-  whole =
-      let last : i ≡ suc j = omega arith in
-      s.is ∙ ap (λ (k : ℕ). sum_to k (places S a j)) last ∙ sym (conv_sum (at a) (at S) j) ∙ conv_comm (at a) (at S) j
+-- all of them
+pub summed_all : (S a : List ℕ) (j : ℕ) {i sum : ℕ} → Summed (places S a j) i sum → i ≡ suc j → sum ≡ conv (at S) (at a) j
+summed_all S a j s last = s.is ∙ ap (λ (k : ℕ). sum_to k (places S a j)) last ∙ sym (conv_sum (at a) (at S) j) ∙ conv_comm (at a) (at S) j
 
+-- the test of place j
+module _ (S a b : List ℕ) (m j sum r x : ℕ) (whole : sum ≡ conv (at S) (at a) j) (d : r ≡ sum % m) (e : x ≡ at b j) where
   rest : r ≡ conv (at S) (at a) j % m
   rest = d ∙ ap (λ (z : ℕ). z % m) whole
 

@@ -1,10 +1,11 @@
 // Candidate registers (the paper's claims): checking one, testing one against a query, running one.
 #![tactic(auto)]
 
-ghost use Rattle.std.specs.Prelude.{◌≡◌, ℕ, ◌+◌, ◌*◌, ◌/◌, ◌≤◌, ◌<◌, min, length};
+ghost use Rattle.std.specs.Prelude.{◌≡◌, ℕ, ◌+◌, ◌*◌, ◌/◌, ◌≤◌, ◌<◌, length};
 ghost use Rattle.lists.specs.Table.{at};
 ghost use Rattle.residue.specs.Reduction.{two48};
 ghost use Rattle.cells.specs.Cell.{cells_from, bytes_of};
+ghost use Rattle.recurrence.specs.Polynomial.{conv};
 ghost use Rattle.recurrence.specs.Running.{cell, generated, first_difference};
 ghost use Rattle.sequence.specs.Limits.{max_terms, a_bytes, b_bytes};
 ghost use Rattle.sequence.specs.Answers.{outcome_answer};
@@ -19,12 +20,10 @@ fn all_below(s: &[u8], n: usize, m: u32) -> bool
     requires { 2 * n ≤ length s.now }
     ensures { result ≡ all_below m n (cells_from s.now 0 n) }
 {
-    let mut i: usize = 0;
-    while i < n {
+    for i in 0..n {
         if m <= cells::cell(s, i) {
             return false;
         }
-        i += 1;
     }
     true
 }
@@ -34,12 +33,10 @@ fn zero_from(s: &[u8], k: usize, n: usize) -> bool
     requires { 2 * n ≤ length s.now }
     ensures { result ≡ zero_from k n (cells_from s.now 0 n) }
 {
-    let mut i = k;
-    while i < n {
+    for i in k..n {
         if cells::cell(s, i) != 0 {
             return false;
         }
-        i += 1;
     }
     true
 }
@@ -50,14 +47,10 @@ fn fits(m: u32, l: u32, a: &[u8], b: &[u8]) -> bool
     ensures { result ≡ fits m l (a_cells a.now) (b_cells b.now) }
 {
     let k = l as usize;
-    if all_below(a, CELLS, m) {
-        if all_below(b, TERMS, m) {
-            if zero_from(a, k + 1, CELLS) {
-                return zero_from(b, k, TERMS);
-            }
-        }
-    }
-    false
+    all_below(a, CELLS, m)
+        && all_below(b, TERMS, m)
+        && zero_from(a, k + 1, CELLS)
+        && zero_from(b, k, TERMS)
 }
 
 // The refusal of a candidate by what is wrong with it, in the order 25, 6, 26: the length, a coefficient, a_0.
@@ -92,7 +85,19 @@ fn product(x: u32, y: u32) -> u64
     requires { x < 65536 }
     ensures { (result ≡ x * y) × (result ≤ two48) }
 {
-    (x as u64) * (y as u64)
+    u64::from(x) * u64::from(y)
+}
+
+// Coefficient j of the product of the terms and a, not reduced.
+fn coefficient(terms: &[u32; TERMS], a: &[u8], j: usize) -> u64
+    requires { (j < max_terms) × (length terms.now ≡ max_terms) × (length a.now ≡ a_bytes) }
+    ensures { result ≡ conv (at terms.now) (at (a_cells a.now)) j }
+{
+    let mut sum = 0;
+    for i in 0..j + 1 {
+        sum += product(cells::cell(a, i), terms[j - i]);
+    }
+    sum
 }
 
 // The first of n places where the product of the terms and a differs from b modulo m, or n. One division for each sum.
@@ -100,25 +105,12 @@ fn first_difference(terms: &[u32; TERMS], a: &[u8], b: &[u8], n: usize, m: u32) 
     requires { (n ≤ max_terms) × (0 < m) × (m < 65536) × (length terms.now ≡ max_terms) × (length a.now ≡ a_bytes) × (length b.now ≡ b_bytes) }
     ensures { result ≡ first_difference m terms.now (a_cells a.now) (b_cells b.now) n }
 {
-    let mut j: usize = 0;
-    'places: loop {
-        if n <= j {
-            break n;
+    for j in 0..n {
+        if residue::remainder(coefficient(terms, a, j), m) != cells::cell(b, j) {
+            return j;
         }
-        let mut sum: u64 = 0;
-        let mut i: usize = 0;
-        loop {
-            if j < i {
-                if residue::remainder(sum, m) == cells::cell(b, j) {
-                    break;
-                }
-                break 'places j;
-            }
-            sum += product(cells::cell(a, i), terms[j - i]);
-            i += 1;
-        }
-        j += 1;
     }
+    n
 }
 
 // The test of a candidate against a sound sequence: the first place where the product and b differ, or none.
@@ -152,23 +144,14 @@ pub fn verify(query: &[u8], a: &[u8], b: &[u8], length: u32) -> Result<Option<u3
     judge(&s, a, b, length)
 }
 
-fn smaller(x: usize, y: usize) -> usize
-    ensures { result ≡ min x y }
-{
-    if x < y { x } else { y }
-}
-
 // Cell j from the cells before it: b_j less the sum of a_i times cell j - i.
 fn next_cell(m: u32, a: &[u8], b: &[u8], l: usize, out: &[u8], j: usize) -> u32
     requires { (0 < m) × (m < 65536) × (length a.now ≡ a_bytes) × (length b.now ≡ b_bytes) × (l ≤ max_terms) × (j < max_terms) × (2 * j ≤ length out.now) × (at (b_cells b.now) j < m) }
     ensures { result ≡ cell m l (a_cells a.now) (b_cells b.now) (cells_from out.now 0 j) j }
 {
-    let n = smaller(l, j);
-    let mut sum: u64 = 0;
-    let mut i: usize = 0;
-    while i < n {
+    let mut sum = 0;
+    for i in 0..l.min(j) {
         sum += product(cells::cell(a, i + 1), cells::cell(out, j - (i + 1)));
-        i += 1;
     }
     residue::sub(cells::cell(b, j), residue::remainder(sum, m), m)
 }
@@ -179,11 +162,9 @@ fn fill(m: u32, a: &[u8], b: &[u8], l: usize, out: &mut [u8], n: usize)
     requires by_index { (i : ℕ) → i < max_terms → at (b_cells b.now) i < m }
     ensures { out.new ≡ bytes_of (generated m l (a_cells a.now) (b_cells b.now) n) }
 {
-    let mut j: usize = 0;
-    while j < n {
-        let v = next_cell(m, a, b, l, out, j);
-        cells::put(out, j, v);
-        j += 1;
+    for i in 0..n {
+        let v = next_cell(m, a, b, l, out, i);
+        cells::put(out, i, v);
     }
 }
 

@@ -3,14 +3,17 @@
 use mathlib.Core.Path.{◌≡◌, refl, sym, ap, ap₂, ◌∙◌}
 use mathlib.Core.Bool.{Bool, true, false}
 use mathlib.Core.List.{List, [], ◌∷◌, ◌++◌, append_assoc, append-nil}
-use Prim.Native.Nat.{ℕ, zero, suc, ◌+◌, ◌*◌, ◌/◌, ◌%◌, ◌≤◌, ◌<◌}
+use Prim.Native.Nat.{ℕ, zero, suc, ◌+◌, ◌*◌, ◌-◌, ◌/◌, ◌%◌, ◌≤◌, ◌<◌}
 use native.Mathlib.Nat.{mod-eq_of_lt}
 use native.Mathlib.Numerals.{add-one}
 use native.Mathlib.Omega.{arith}
 use lib.Dec.{eqb}
 use lib.ListN.{length, take, drop, set, length-append, length-set, drop_of_length-le, get_or-append}
-use lib.Seq.{take-suc, drop-cons, set_at, take_all, length-take-le, get_or-take, ext_get_or}
+use lib.Seq.{take-suc, drop-cons, set_at, take_all, length-take-le, get_or-take}
+use borrow.Rule.Slice.PartMut.{put_mid, post_of, Post-is}
 use borrow.Author.Tests.{eqb-true, eq-eqb}
+use Rattle.std.specs.Cmp.Lexicographic.{pointwise}
+use Rattle.lists.specs.Choice.{both}
 use Rattle.lists.specs.Table.{at, tabulate}
 use Rattle.lists.proofs.Search.{false_true, both_left, both_right, both_true}
 use Rattle.lists.proofs.Table.{tabulate_eq, at_tabulate}
@@ -114,13 +117,13 @@ equal_ne xs ys h = go (equal xs ys) refl
     go true e = absurd (h (equal_eq xs ys e))
     go false e = refl
 
--- one place where two buffers differ
-pub equal_differs : (xs ys : List ℕ) (i : ℕ) → (at xs i ≡ at ys i → ⊥) → equal xs ys ≡ false
-equal_differs xs ys i h = equal_ne xs ys (λ e. h (ap (λ (zs : List ℕ). at zs i) e))
-
--- a walk that met no two bytes that differ
-pub equal_all : (xs ys : List ℕ) → length xs ≡ length ys → ((j : ℕ) → j < length xs → at xs j ≡ at ys j) → equal xs ys ≡ true
-equal_all xs ys l h = rw (← ext_get_or zero xs ys l h) (equal_self xs)
+-- what `==` answers for two slices of bytes
+pub equal_pointwise : (xs ys : List ℕ) → pointwise eqb xs ys ≡ equal xs ys
+unfolding equal
+equal_pointwise [] [] = refl
+equal_pointwise [] (y ∷ ys) = refl
+equal_pointwise (x ∷ xs) [] = refl
+equal_pointwise (x ∷ xs) (y ∷ ys) = ap (both (eqb x y)) (equal_pointwise xs ys)
 
 -- ---- the loop that writes cells
 
@@ -185,3 +188,19 @@ module _ {values out₀ : List ℕ} (fits : length out₀ ≡ 2 * length values)
 
       high : at out (2 * k + 1) ≡ at values k / 256 % 256
       high = read (2 * k + 1) (omega arith) ∙ at_high (take i values) k ∙ ap (λ (x : ℕ). x / 256 % 256) (get_or-take i values k zero h)
+
+-- two cells, and then the numbers written as the rest
+pub headed :
+    (m n : ℕ) (ts q q1 q2 : List ℕ) → length q ≡ 2 * length (m ∷ n ∷ ts) → q1 ≡ put_cell q 0 m → q2 ≡ put_cell q1 1 n
+    → put_mid 4 (length q2 - 4) q2 (bytes_of ts) ≡ bytes_of (m ∷ n ∷ ts)
+unfolding bytes_of
+headed m n ts q q1 q2 fits d e =
+    ap (λ (p : List ℕ). take 4 q2 ++ (bytes_of ts ++ p)) nothing
+    ∙ ap (λ (p : List ℕ). take 4 q2 ++ p) (append-nil (bytes_of ts))
+    ∙ ap (λ (p : List ℕ). take 4 p ++ bytes_of ts) two.is
+  where
+    two : Written (m ∷ n ∷ ts) q 2 q2
+    two = written_more fits q2 (written_more fits q1 (written_none fits) (omega arith) d) (omega arith) e
+
+    nothing : post_of 4 (length q2 - 4) q2 ≡ []
+    nothing = Post-is 4 (length q2) q2 (omega (arith, two.size)) ∙ drop_of_length-le q2 {i = length q2} (omega arith)

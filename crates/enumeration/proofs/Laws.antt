@@ -4,8 +4,8 @@ use mathlib.Core.Path.{◌≡◌, refl, sym, ap, ap₂, ◌∙◌, subst}
 use mathlib.Core.Logic.{◌⊎◌, inl, inr}
 use mathlib.Core.Bool.{Bool, true, false}
 use mathlib.Core.List.{List, ◌∷◌}
-use Prim.Native.Nat.{ℕ, zero, suc, ◌*◌, ◌^◌, ◌≤◌, ◌<◌, min}
-use native.Mathlib.Nat.{pow-suc, mul-le-mul_right, pow-le-pow_left, pow-le-pow_right}
+use Prim.Native.Nat.{ℕ, zero, suc, ◌^◌, ◌≤◌, ◌<◌, min}
+use native.Mathlib.Nat.{pow-le-pow_left, pow-le-pow_right}
 use native.Mathlib.Decide.{dec_le}
 use native.Mathlib.Omega.{arith}
 use lib.ListN.{length}
@@ -29,18 +29,6 @@ use Rattle.sequence.proofs.Laws.{inside}
 use Rattle.enumeration.specs.Rules.{max_sequences, lengths, tally_bytes, counted_of, number_in, tally_in, enumerate_of, query_numbered, tally_of, Counted}
 
 -- ---- the power
-
--- a product that is not too large yet fits when it is taken once more
-pub product_fits : (x m : ℕ) → x ≤ max_sequences → m < 65536 → x * m < 4294967296
-product_fits x m h k = omega (arith, mul-le-mul_right m h)
-
-pub power_more : (m i : ℕ) {x : ℕ} → x ≡ m ^ i → x * m ≡ m ^ suc i
-power_more m i e = ap (λ (z : ℕ). z * m) e ∙ sym (pow-suc m i)
-
--- a power that is too large stays so
-pub power_large : (m i n : ℕ) → 2 ≤ m → i ≤ n → max_sequences < m ^ i → suc max_sequences ≡ min (m ^ n) (suc max_sequences)
-power_large m i n big h k =
-    omega (arith, pow-le-pow_right {n = m} (let z : zero < m = omega arith in z) {i = i} {j = n} h)
 
 -- at most 4,096 sequences: at most 12 terms
 few_terms : (m n : ℕ) → 2 ≤ m → m ^ n ≤ max_sequences → n < lengths

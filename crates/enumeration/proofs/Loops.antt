@@ -33,8 +33,8 @@ pub record Parted (m n x i left : ℕ) (terms : List ℕ) : Type 0 where
   pub zeros : (j : ℕ) → n ≤ j → j < max_terms → at terms j ≡ zero
 
 module _ {m n x : ℕ} where
-  none : Parted m n x n x (replicate max_terms 0)
-  none =
+  pub parted_none : Parted m n x n x (replicate max_terms 0)
+  parted_none =
       record {
         within = omega arith;
         size = length-replicate {A = ℕ} max_terms 0;
@@ -42,9 +42,6 @@ module _ {m n x : ℕ} where
         rest = λ j b. refl;
         zeros = λ j b h. get_or-replicate max_terms j 0 0 h;
       }
-
-  pub parted_none : (k : ℕ) → k ≡ n → Parted m n x k x (replicate max_terms 0)
-  parted_none k e = subst (λ (z : ℕ). Parted m n x z x (replicate max_terms 0)) (sym e) none
 
   -- one digit more, at place i
   more :
@@ -68,10 +65,9 @@ module _ {m n x : ℕ} where
       go j a b (no z) = get_or-set_other terms i j d zero z ∙ p.done j (omega arith) b
 
   pub parted_more :
-      {k left : ℕ} {terms : List ℕ} (i j d : ℕ) → n ≤ max_terms → k ≡ suc i → i ≡ j → Parted m n x k left terms → d ≡ left % m
-      → Parted m n x j (left / m) (set terms i d)
-  parted_more {k} {left} {terms} i j d few a b p e =
-      subst (λ (z : ℕ). Parted m n x z (left / m) (set terms i d)) b (more d few (subst (λ (z : ℕ). Parted m n x z left terms) a p) e)
+      {k left : ℕ} {terms : List ℕ} (i d : ℕ) → n ≤ max_terms → k ≡ suc i → Parted m n x k left terms → d ≡ left % m
+      → Parted m n x i (left / m) (set terms i d)
+  parted_more {k} {left} {terms} i d few a p e = more d few (subst (λ (z : ℕ). Parted m n x z left terms) a p) e
 
   pub parted_all : {k left : ℕ} {terms : List ℕ} → k ≡ zero → Parted m n x k left terms → terms ≡ tabulate max_terms (at (list_at m n x))
   parted_all {k} {left} {terms} e p = is_tabulate max_terms (at (list_at m n x)) zero terms p.size (λ j b. go j b (lt_or_le j n))
@@ -116,9 +112,8 @@ module _ {m n : ℕ} where
   -- so each cell has room for one more
   pub tallied_room :
       {k x l : ℕ} {counts : List ℕ} → Tallied m n x counts → x < k → k ≤ max_sequences → l < lengths
-      → (l < lengths) × (length counts ≡ lengths) × (at counts l < max_sequences)
-  tallied_room {x = x} {l = l} t a b h =
-      (h, t.size, omega (arith, t.each l h, count_le x (λ y. eqb (complexity m (list_at m n y) n) l)))
+      → at counts l < max_sequences
+  tallied_room {x = x} {l = l} t a b h = omega (arith, t.each l h, count_le x (λ y. eqb (complexity m (list_at m n y) n) l))
 
   pub tallied_all : {k : ℕ} {counts : List ℕ} → Tallied m n k counts → k ≡ m ^ n → counts ≡ tabulate lengths (with_length m n)
   unfolding with_length

@@ -1,7 +1,7 @@
 // The sequences of n terms modulo m: the one with a number, and how many of them have each length.
 #![tactic(auto)]
 
-ghost use Rattle.std.specs.Prelude.{◌≡◌, Ok, ◌∷◌, suc, ◌+◌, ◌^◌, ◌≤◌, ◌<◌, min, length, set};
+ghost use Rattle.std.specs.Prelude.{◌≡◌, Ok, ◌∷◌, suc, ◌+◌, ◌^◌, ◌≤◌, ◌<◌, min, length};
 ghost use Rattle.lists.specs.Table.{at, tabulate};
 ghost use Rattle.cells.specs.Cell.{bytes_of};
 ghost use Rattle.recurrence.specs.Register.{complexity};
@@ -23,21 +23,12 @@ pub const LENGTHS: usize = 13;
 
 pub const TALLY_BYTES: usize = 2 * LENGTHS;
 
-// m^n up to 4,096, and 4,097 for any larger power: no product goes past 4,096 times m, however large n is.
+// m^n up to 4,096, and 4,097 for any larger power, however large n is.
 fn power(m: u32, n: u32) -> u32
     requires { (2 ≤ m) × (m < 65536) }
     ensures { result ≡ min (m ^ n) (suc max_sequences) }
 {
-    let mut product: u32 = 1;
-    let mut i: u32 = 0;
-    while i < n {
-        product = product * m;
-        if MAX_SEQUENCES < product {
-            return MAX_SEQUENCES + 1;
-        }
-        i += 1;
-    }
-    product
+    m.checked_pow(n).unwrap_or(u32::MAX).min(MAX_SEQUENCES + 1)
 }
 
 // How many sequences of n terms modulo m there are; 1, 2, 33, in this order, for both calls.
@@ -64,12 +55,9 @@ fn digits(m: u32, n: usize, number: u32) -> [u32; TERMS]
 {
     let mut terms = [0u32; TERMS];
     let mut left = number;
-    let mut j: usize = 0;
-    while j < n {
-        let i = n - 1 - j;
-        terms[i] = residue::remainder(left as u64, m);
-        left = left / m;
-        j += 1;
+    for i in (0..n).rev() {
+        terms[i] = left % m;
+        left /= m;
     }
     terms
 }
@@ -81,11 +69,7 @@ fn write_query(m: u32, n: u32, terms: &[u32; TERMS], query: &mut [u8])
 {
     cells::put(query, 0, m);
     cells::put(query, 1, n);
-    let mut i: usize = 0;
-    while i < TERMS {
-        cells::put(query, 2 + i, terms[i]);
-        i += 1;
-    }
+    cells::write(&mut query[4..], terms);
 }
 
 // Writes the query of the sequence with a number, of the k that there are.
@@ -125,25 +109,15 @@ fn length_of(m: u32, n: usize, number: u32) -> usize
     synthesis::complexity(m, &terms, n) as usize
 }
 
-// One more in a cell.
-fn add_one(counts: &mut [u32; LENGTHS], l: usize)
-    requires { (l < lengths) × (length counts.old ≡ lengths) × (at counts.old l < max_sequences) }
-    ensures { counts.new ≡ set counts.old l (at counts.old l + 1) }
-{
-    counts[l] = counts[l] + 1;
-}
-
 // How many of the k sequences have each length. One is held at a time.
 fn count_lengths(m: u32, n: u32, k: u32) -> [u32; LENGTHS]
     requires { counted_of m n ≡ Ok k }
     ensures { result ≡ tabulate lengths (with_length m n) }
 {
     let mut counts = [0u32; LENGTHS];
-    let mut x: u32 = 0;
-    while x < k {
+    for x in 0..k {
         let l = length_of(m, n as usize, x);
-        add_one(&mut counts, l);
-        x += 1;
+        counts[l] += 1;
     }
     counts
 }

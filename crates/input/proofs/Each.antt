@@ -14,6 +14,7 @@ use Rattle.input.specs.declared.Source.{Source}
 use Rattle.input.specs.declared.Taken.{Taken}
 use Rattle.input.specs.declared.Taken.TheVariants as T
 use Rattle.input.specs.declared.Typed.{Typed}
+use Rattle.input.specs.Marks.{longest}
 use Rattle.input.specs.Held.{Told, CutOff, StandsIn}
 use Rattle.input.specs.Each.{Shows, unread, EachLine, Block, EachBlock}
 
@@ -33,20 +34,20 @@ module _ {F E : Type 0} (step : F → Typed → Result Bool E → F → Type 0) 
     by_turn : (r : Result (Unit {0}) E) → EachLine step (suc (m - (i + 1))) s chunk f r → EachLine step m s₀ chunk₀ f₀ r
     by_turn r x = rest r (subst (λ (n : ℕ). EachLine step n s chunk f r) turn x)
 
-    module _ {taken : Taken} {s' : Source} {chunk' buffer : List ℕ} (told : Told s chunk taken s' chunk' buffer) where
+    module _ {taken : Taken} {s' : Source} {chunk' buffer : List ℕ} (room : longest < length buffer) (told : Told s chunk taken s' chunk' buffer) where
       pub each_ended : taken ≡ T.Ended → EachLine step m s₀ chunk₀ f₀ (Ok tt)
-      each_ended e = by_turn _ (EachLine.ended s' chunk' buffer (subst (λ (t : Taken). Told s chunk t s' chunk' buffer) e told))
+      each_ended e = by_turn _ (EachLine.ended s' chunk' buffer room (subst (λ (t : Taken). Told s chunk t s' chunk' buffer) e told))
 
       module _ {x : Typed} {f' : F} (shows : Shows taken buffer x) where
         pub each_answered : (b : Bool) → step f x (Ok b) f' → b ≡ true → Pending m s₀ chunk₀ f₀ (m - (i + 1)) s' chunk' f'
-        each_answered b st e r x' = by_turn r (EachLine.answered taken s' chunk' buffer x f' told shows (subst (λ (c : Bool). step f x (Ok c) f') e st) x')
+        each_answered b st e r x' = by_turn r (EachLine.answered taken s' chunk' buffer x f' room told shows (subst (λ (c : Bool). step f x (Ok c) f') e st) x')
 
         pub each_stopped : (b : Bool) → step f x (Ok b) f' → b ≡ false → EachLine step m s₀ chunk₀ f₀ (Ok tt)
-        each_stopped b st e = by_turn _ (EachLine.stopped taken s' chunk' buffer x f' told shows (subst (λ (c : Bool). step f x (Ok c) f') e st))
+        each_stopped b st e = by_turn _ (EachLine.stopped taken s' chunk' buffer x f' room told shows (subst (λ (c : Bool). step f x (Ok c) f') e st))
 
         pub each_failed : (e : E) {r : Result (Unit {0}) E} → step f x (Err e) f' → r ≡ Err e → EachLine step m s₀ chunk₀ f₀ r
         each_failed e {r} st g =
-            subst (EachLine step m s₀ chunk₀ f₀) (sym g) (by_turn _ (EachLine.failed taken s' chunk' buffer x f' e told shows st))
+            subst (EachLine step m s₀ chunk₀ f₀) (sym g) (by_turn _ (EachLine.failed taken s' chunk' buffer x f' e room told shows st))
 
     pub each_cut : {buffer : List ℕ} (e : E) {r : Result (Unit {0}) E} → CutOff s chunk buffer → r ≡ Err e → EachLine step m s₀ chunk₀ f₀ r
     each_cut {buffer} e {r} x g = subst (EachLine step m s₀ chunk₀ f₀) (sym g) (by_turn _ (EachLine.cut buffer e x))

@@ -8,6 +8,7 @@ use Rattle.input.specs.declared.Taken.{Taken}
 use Rattle.input.specs.declared.Taken.TheVariants as T
 use Rattle.input.specs.declared.Typed.{Typed}
 use Rattle.input.specs.declared.Typed.TheVariants.{Line, TooLong}
+use Rattle.input.specs.Marks.{longest}
 use Rattle.input.specs.Held.{Told, CutOff, StandsIn}
 
 -- what the closure is handed for a reply: the line, or that it is too long
@@ -20,21 +21,21 @@ Shows _ buffer _ = ⊥
 abbrev pub unread : Source
 unread = record { from = 0; end = 0; «open» = true }
 
--- At most n lines from a source of a chunk on, with the closure f: each is the next one, `Told`, and is handed to the closure once, as the calls
--- before left it. After true the next line follows; false, the end of the input and n lines end it well, and a call or a read that fails with
+-- At most n lines from a source of a chunk on, with the closure f: each is the next one, `Told` in a buffer with room for the longest, and is
+-- handed to the closure once, as the calls before left it. After true the next line follows; false, the end of the input and n lines end it well, and a call or a read that fails with
 -- an error, which a call's is.
 pub data EachLine {F E : Type 0} (step : F → Typed → Result Bool E → F → Type 0) : ℕ → Source → List ℕ → F → Result (Unit {0}) E → Type 0 where
   answered :
       {n : ℕ} {s : Source} {chunk : List ℕ} {f : F} {r : Result (Unit {0}) E} (taken : Taken) (s' : Source) (chunk' buffer : List ℕ) (x : Typed) (f' : F)
-      → Told s chunk taken s' chunk' buffer → Shows taken buffer x → step f x (Ok true) f' → EachLine step n s' chunk' f' r → EachLine step (suc n) s chunk f r
+      → longest < length buffer → Told s chunk taken s' chunk' buffer → Shows taken buffer x → step f x (Ok true) f' → EachLine step n s' chunk' f' r → EachLine step (suc n) s chunk f r
   stopped :
       {n : ℕ} {s : Source} {chunk : List ℕ} {f : F} (taken : Taken) (s' : Source) (chunk' buffer : List ℕ) (x : Typed) (f' : F)
-      → Told s chunk taken s' chunk' buffer → Shows taken buffer x → step f x (Ok false) f' → EachLine step (suc n) s chunk f (Ok tt)
+      → longest < length buffer → Told s chunk taken s' chunk' buffer → Shows taken buffer x → step f x (Ok false) f' → EachLine step (suc n) s chunk f (Ok tt)
   failed :
       {n : ℕ} {s : Source} {chunk : List ℕ} {f : F} (taken : Taken) (s' : Source) (chunk' buffer : List ℕ) (x : Typed) (f' : F) (e : E)
-      → Told s chunk taken s' chunk' buffer → Shows taken buffer x → step f x (Err e) f' → EachLine step (suc n) s chunk f (Err e)
+      → longest < length buffer → Told s chunk taken s' chunk' buffer → Shows taken buffer x → step f x (Err e) f' → EachLine step (suc n) s chunk f (Err e)
   ended :
-      {n : ℕ} {s : Source} {chunk : List ℕ} {f : F} (s' : Source) (chunk' buffer : List ℕ) → Told s chunk T.Ended s' chunk' buffer
+      {n : ℕ} {s : Source} {chunk : List ℕ} {f : F} (s' : Source) (chunk' buffer : List ℕ) → longest < length buffer → Told s chunk T.Ended s' chunk' buffer
       → EachLine step (suc n) s chunk f (Ok tt)
   cut : {n : ℕ} {s : Source} {chunk : List ℕ} {f : F} (buffer : List ℕ) (e : E) → CutOff s chunk buffer → EachLine step (suc n) s chunk f (Err e)
   spent : {s : Source} {chunk : List ℕ} {f : F} → EachLine step 0 s chunk f (Ok tt)

@@ -1,18 +1,19 @@
 -- Laws of the comparison of two sequences: which of its cases holds, and what the code has where they can be merged.
 -- Assumes nothing.
 use mathlib.Core.Path.{◌≡◌, refl, sym, ap, ap₂, ◌∙◌, subst}
+use mathlib.Core.Logic.{◌⊎◌, inl, inr}
 use mathlib.Core.Bool.{Bool, true, false, not}
 use mathlib.Core.List.{List, ◌∷◌}
 use Prim.Native.Nat.{ℕ, zero, ◌*◌, ◌/◌, ◌%◌, ◌≤◌, ◌<◌}
 use native.Mathlib.Nat.{div-le_self, mul-le-mul_right}
 use native.Mathlib.Omega.{arith}
 use lib.Dec.{eqb, ltb}
+use lib.ListN.{length, replicate, length-replicate}
 use borrow.Author.Tests.{not-false, eqb-true, ltb-true, ltb-false, lt-ltb, le-ltb, eq-eqb, ne_eqb}
 use Rattle.std.specs.Prelude.{Ok, Err}
-use Rattle.lists.specs.Choice.{pick}
 use Rattle.lists.specs.Table.{at, tabulate}
-use Rattle.lists.proofs.Search.{false_true, first_passes, first_before, first_none, is_first}
-use Rattle.lists.proofs.Table.{length_tabulate, at_tabulate, at_past}
+use Rattle.lists.proofs.Search.{lt_or_le, false_true, first_passes, first_before, first_none, is_first}
+use Rattle.lists.proofs.Table.{length_tabulate, at_tabulate, at_past, is_tabulate}
 use Rattle.residue.specs.Remainders.{joined, two}
 use Rattle.residue.specs.Units.{Coprime}
 use Rattle.residue.proofs.Common.{met_parts, g_pos, a_whole, b_whole, μ-pos, ν-pos, rest_coprime, multiple_is, multiple_product}
@@ -24,7 +25,7 @@ use Rattle.sequence.specs.Limits.{max_modulus, max_terms}
 use Rattle.sequence.specs.Report.{filled}
 use Rattle.sequence.specs.Rules.{IsSound, query_of, sequence_of, check_of}
 use Rattle.sequence.proofs.Laws.{refused_done, Accepted}
-use Rattle.sequence.proofs.Writing.{values}
+use Rattle.steps.proofs.Passes.{line_blank}
 use Rattle.merge.specs.Rules.{divisor_of, multiple_of, merged_query, first_apart, compared_by, compared_of, past_buffers, merged_in}
 use Rattle.sequence.specs.Answers.{Outcome, and_then}
 
@@ -209,19 +210,28 @@ module _ (s t : Sequence) (S : IsSound s) (T : IsSound t) where
     merged_is =
         λ j. query_of (R'.product j) (tabulate s.count (λ i. joined (R'.product j) (two (R'.first j) (at s.terms i) (R'.second j) (at t.terms i))))
 
--- ---- the loop that writes them
+-- ---- the loop that merges them
 
--- the term at place i, zero past the last
-pub term_at : (n : ℕ) (f : ℕ → ℕ) (i : ℕ) → pick (ltb i n) (f i) zero ≡ at (tabulate n f) i
-term_at n f i = go (ltb i n) refl
+-- the first i terms are there, and the others are zero
+pub record Merging (f : ℕ → ℕ) (i : ℕ) (terms : List ℕ) : Type 0 where
+  pub long : length terms ≡ max_terms
+  pub done : (j : ℕ) → j < i → at terms j ≡ f j
+  pub rest : (j : ℕ) → i ≤ j → at terms j ≡ zero
+
+pub merging_none : (f : ℕ → ℕ) → Merging f zero (replicate max_terms zero)
+merging_none f = record { long = length-replicate max_terms zero; done = λ j h. absurd (omega arith); rest = λ j h. line_blank max_terms j }
+
+pub merging_all : {f : ℕ → ℕ} {i n : ℕ} {terms : List ℕ} → Merging f i terms → i ≡ n → terms ≡ tabulate max_terms (at (tabulate n f))
+merging_all {f} {i} {n} {terms} m e = is_tabulate max_terms (at (tabulate n f)) zero terms m.long (λ j h. go j (lt_or_le j n))
   where
-    go : (b : Bool) → ltb i n ≡ b → pick b (f i) zero ≡ at (tabulate n f) i
-    go true e = sym (at_tabulate n f i (ltb-true i n e))
-    go false e = sym (at_past (tabulate n f) i (omega (arith, length_tabulate n f, ltb-false i n e)))
+    go : (j : ℕ) → (j < n) ⊎ (n ≤ j) → at terms j ≡ at (tabulate n f) j
+    go j (inl h) = m.done j (omega arith) ∙ sym (at_tabulate n f j h)
+    go j (inr h) = m.rest j (omega arith) ∙ sym (at_past (tabulate n f) j (omega (arith, length_tabulate n f)))
 
--- the cells that stand then are those of the query
-pub written_query : (m n : ℕ) (f : ℕ → ℕ) {query : List ℕ} → query ≡ bytes_of (values m n (at (tabulate n f))) → query ≡ query_of m (tabulate n f)
-written_query m n f e = e ∙ ap (λ (k : ℕ). bytes_of (m ∷ k ∷ tabulate max_terms (at (tabulate n f)))) (sym (length_tabulate n f))
+-- the query of what was merged
+pub written_query : (m n : ℕ) (f : ℕ → ℕ) {terms query : List ℕ} → terms ≡ tabulate max_terms (at (tabulate n f)) → query ≡ bytes_of (m ∷ n ∷ terms)
+    → query ≡ query_of m (tabulate n f)
+written_query m n f d e = e ∙ ap₂ (λ (k : ℕ) (ts : List ℕ). bytes_of (m ∷ k ∷ ts)) (sym (length_tabulate n f)) d
 
 -- ---- the checks of the two queries
 

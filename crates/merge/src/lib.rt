@@ -1,8 +1,7 @@
 // Two queries of the same sequence modulo two moduli, merged to one query modulo their least common multiple.
 #![tactic(auto)]
 
-ghost use Rattle.std.specs.Prelude.{◌≡◌, Ok, ℕ, ◌*◌, ◌%◌, ◌≤◌, ◌<◌, ltb, length};
-ghost use Rattle.lists.specs.Choice.{pick};
+ghost use Rattle.std.specs.Prelude.{◌≡◌, Ok, ℕ, ◌*◌, ◌%◌, ◌≤◌, ◌<◌, length};
 ghost use Rattle.lists.specs.Table.{at, tabulate};
 ghost use Rattle.residue.specs.Remainders.{joined, two};
 ghost use Rattle.residue.specs.Units.{Coprime, inverse};
@@ -20,12 +19,10 @@ fn first_apart(xs: &[u32; TERMS], ys: &[u32; TERMS], n: u32, g: u32) -> u32
     requires { (n ≤ max_terms) × (0 < g) × (length xs.now ≡ max_terms) × (length ys.now ≡ max_terms) }
     ensures { result ≡ first_apart g xs.now ys.now n }
 {
-    let mut i: u32 = 0;
-    while i < n {
+    for i in 0..n {
         if xs[i as usize] % g != ys[i as usize] % g {
             return i;
         }
-        i += 1;
     }
     n
 }
@@ -59,44 +56,43 @@ fn compare(s: &Sequence, t: &Sequence, g: u32) -> Result<(), Refusal>
     first_refusal(differ, above, i < n, i)
 }
 
-// Two moduli mu g and nu g, mu and nu coprime, their least common multiple and their meeter: taken once for all terms.
+// Two moduli mu g and nu g, mu and nu coprime, their least common multiple and their joiner: taken once for all terms.
 #[derive(Clone, Copy)]
 struct Moduli {
     multiple: u32,
     mu: u32,
     nu: u32,
     g: u32,
-    meeter: u32,
+    joiner: u32,
 }
 
-// The merged term at place i, from the terms x and y there; 0 past the n terms.
-fn merged_term(x: u32, y: u32, m: Moduli, i: usize, n: usize) -> u32
-    requires multiple_value { (m.multiple ≡ m.mu * m.nu * m.g) × (m.multiple < 65536) × Coprime m.mu m.nu × (m.meeter ≡ inverse m.nu m.mu) }
-    requires x_bound { i < n → (x < m.mu * m.g) × (y < m.nu * m.g) × (x % m.g ≡ y % m.g) }
-    ensures { result ≡ pick (ltb i n) (joined m.multiple (two (m.mu * m.g) x (m.nu * m.g) y)) 0 }
+// The n merged terms; zero past them.
+fn merged_terms(xs: &[u32; TERMS], ys: &[u32; TERMS], n: u32, m: Moduli) -> [u32; TERMS]
+    requires xs_len { (length xs.now ≡ max_terms) × (length ys.now ≡ max_terms) × (n ≤ max_terms) }
+    requires multiple_value { (m.multiple ≡ m.mu * m.nu * m.g) × (m.multiple < 65536) × Coprime m.mu m.nu × (m.joiner ≡ inverse m.nu m.mu) }
+    requires by_index { (i : ℕ) → i < n → (at xs.now i < m.mu * m.g) × (at ys.now i < m.nu * m.g) × (at xs.now i % m.g ≡ at ys.now i % m.g) }
+    ensures { result ≡ tabulate max_terms
+        (at (tabulate n (λ i. joined m.multiple (two (m.mu * m.g) (at xs.now i) (m.nu * m.g) (at ys.now i))))) }
 {
-    if i < n {
-        return residue::meet(x, y, m.mu, m.nu, m.g, m.meeter);
+    let mut terms = [0u32; TERMS];
+    for i in 0..n as usize {
+        terms[i] = residue::meet(xs[i], ys[i], m.mu, m.nu, m.g, m.joiner);
     }
-    0
+    terms
 }
 
 // Writes the query of the merged terms.
 fn write_query(xs: &[u32; TERMS], ys: &[u32; TERMS], n: u32, m: Moduli, query: &mut [u8])
     requires xs_len { (length xs.now ≡ max_terms) × (length ys.now ≡ max_terms) × (n ≤ max_terms) × (length query.old ≡ query_bytes) }
-    requires multiple_value { (m.multiple ≡ m.mu * m.nu * m.g) × (m.multiple < 65536) × Coprime m.mu m.nu × (m.meeter ≡ inverse m.nu m.mu) }
+    requires multiple_value { (m.multiple ≡ m.mu * m.nu * m.g) × (m.multiple < 65536) × Coprime m.mu m.nu × (m.joiner ≡ inverse m.nu m.mu) }
     requires by_index { (i : ℕ) → i < n → (at xs.now i < m.mu * m.g) × (at ys.now i < m.nu * m.g) × (at xs.now i % m.g ≡ at ys.now i % m.g) }
     ensures { query.new ≡ query_of m.multiple
         (tabulate n (λ i. joined m.multiple (two (m.mu * m.g) (at xs.now i) (m.nu * m.g) (at ys.now i)))) }
 {
+    let terms = merged_terms(xs, ys, n, m);
     cells::put(query, 0, m.multiple);
     cells::put(query, 1, n);
-    let mut i: usize = 0;
-    while i < TERMS {
-        let z = merged_term(xs[i], ys[i], m, i, n as usize);
-        cells::put(query, 2 + i, z);
-        i += 1;
-    }
+    cells::write(&mut query[4..], &terms);
 }
 
 // Writes the query of two sequences that can be merged; g is the common divisor of their moduli.
@@ -107,13 +103,13 @@ fn write_merged(s: &Sequence, t: &Sequence, g: u32, query: &mut [u8])
     let mu = s.modulus / g;
     let nu = t.modulus / g;
     let multiple = s.modulus * nu;
-    let meeter = residue::meeter(mu, nu);
+    let joiner = residue::joiner(mu, nu);
     let m = Moduli {
-        multiple: multiple,
-        mu: mu,
-        nu: nu,
-        g: g,
-        meeter: meeter,
+        multiple,
+        mu,
+        nu,
+        g,
+        joiner,
     };
     write_query(&s.terms, &t.terms, s.count, m, query);
 }

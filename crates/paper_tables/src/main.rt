@@ -10,7 +10,7 @@ ghost use Rattle.steps.specs.Sizes.{max_terms, max_cells};
 ghost use Rattle.steps.specs.Run.{Below};
 
 use catalogue::RECORD_BYTES;
-use sequence::{A_BYTES, B_BYTES, Outcome, QUERY_BYTES, Sequence};
+use sequence::{A_BYTES, B_BYTES, QUERY_BYTES, Refusal, Sequence};
 use std::io;
 use std::io::Write;
 use steps::{CELLS, LOG, Ring, Rows, StepRecord, TERMS};
@@ -111,13 +111,15 @@ fn quintuple<W: Write>(out: &mut W, r: StepRecord) -> io::Result<()> {
 }
 
 // The lines of all steps, from the sheet of the sequence.
-fn quintuples<W: Write>(out: &mut W, s: Sequence) -> io::Result<()> {
+fn quintuples<W: Write>(out: &mut W, s: &Sequence) -> io::Result<()> {
     let mut a = [0u8; A_BYTES];
     let mut b = [0u8; B_BYTES];
     let mut log = [0u64; LOG];
-    let w = sequence::work(s, &mut a, &mut b, LOG, &mut log);
-    for i in 0..w.count {
-        quintuple(out, steps::entry(&log, i))?;
+    // It is not refused: the sequence is sound, and the log has room for every sheet.
+    if let Ok(worked) = s.work(&mut a, &mut b, LOG, &mut log) {
+        for i in 0..worked.count {
+            quintuple(out, steps::entry(&log, i))?;
+        }
     }
     Ok(())
 }
@@ -145,39 +147,31 @@ fn table_2<W: Write>(out: &mut W, s: &[u32; TERMS], ring: Ring) -> io::Result<()
     requires { Below max_terms 65536 s.now }
 {
     printing::text(out, b"Table 2\nk eta l u theta f case\n")?;
-    let terms = *s;
     let sequence = Sequence {
         modulus: ring.q,
         count: COUNT as u32,
-        terms: terms,
+        terms: *s,
     };
-    quintuples(out, sequence)?;
+    quintuples(out, &sequence)?;
     lengths(out, s, ring)
 }
 
 // What a call answered.
-fn told<W: Write>(out: &mut W, o: Outcome) -> io::Result<()> {
-    match o {
-        Outcome::Done => printing::text(out, b"done"),
-        Outcome::Refused(r) => printing::refused(out, r),
+fn told<W: Write>(out: &mut W, answer: Result<(), Refusal>) -> io::Result<()> {
+    match answer {
+        Ok(()) => printing::text(out, b"done"),
+        Err(r) => printing::refused(out, r),
     }
-}
-
-fn stopped<W: Write>(out: &mut W, taken: usize, o: Outcome) -> io::Result<()> {
-    printing::number(out, taken as u64)?;
-    printing::text(out, b" terms taken, then ")?;
-    told(out, o)
 }
 
 // Pushes up to 129 terms and stops at the first refusal: how many were taken, and the refusal.
 fn fill<W: Write>(out: &mut W) -> io::Result<()> {
-    let o = sequence::open(2);
-    let mut s = o.sequence;
+    let mut s = Sequence::open(2).sequence;
     for taken in 0..=TERMS {
-        let p = sequence::push(s, 1);
-        match p.outcome {
-            Outcome::Done => s = p.sequence,
-            Outcome::Refused(_) => return stopped(out, taken, p.outcome),
+        if let Err(r) = s.push(1) {
+            printing::number(out, taken as u64)?;
+            printing::text(out, b" terms taken, then ")?;
+            return printing::refused(out, r);
         }
     }
     Ok(())
@@ -189,8 +183,7 @@ fn overfull<W: Write>(out: &mut W) -> io::Result<()> {
     query[0] = 2;
     query[2] = 129;
     let mut entry = [0u8; RECORD_BYTES];
-    let o = catalogue::synthesize(&query, &mut entry);
-    told(out, o)
+    told(out, catalogue::synthesize(&query, &mut entry))
 }
 
 // Case 15: 128 terms are taken, the 129th gets 22; a query with count 129 gets 2.

@@ -19,16 +19,12 @@ const MAX_PERIOD: usize = 64;
 fn exponent(n: usize) -> usize
     ensures { result ≡ exponent n }
 {
-    let mut w: usize = 0;
-    let mut size: usize = 1;
-    while w < PERIODS {
-        if n == size {
+    for w in 0..PERIODS {
+        if n == 1 << w {
             return w;
         }
-        size = size * 2;
-        w += 1;
     }
-    w
+    PERIODS
 }
 
 // Loads the digits of n cells up to the first that is above 1, and says its place, or n.
@@ -37,39 +33,23 @@ fn load(cells: &[u8], n: usize, digits: &mut [u32; MAX_PERIOD]) -> usize
     ensures { (result ≡ first_large 2 (cells_from cells.now 0 n) n) × (length digits.new ≡ max_period)
         × ((j : ℕ) → j < result → at digits.new j ≡ cell_at cells.now j) }
 {
-    let mut i: usize = 0;
-    while i < n {
+    for i in 0..n {
         let x = cells::cell(cells, i);
         if 2 <= x {
             return i;
         }
         digits[i] = x;
-        i += 1;
     }
     n
 }
 
 // Whether the halves of the first 2 h digits are equal.
+#[tactic(auto, using(crate::proofs::Loops::halves_pointwise))]
 fn equal_halves(digits: &[u32; MAX_PERIOD], h: usize) -> bool
     requires { (2 * h ≤ max_period) × (length digits.now ≡ max_period) }
     ensures { result ≡ equal_halves h digits.now }
 {
-    let mut i: usize = 0;
-    while i < h {
-        if digits[i] != digits[h + i] {
-            return false;
-        }
-        i += 1;
-    }
-    true
-}
-
-// The sum of two digits modulo 2.
-fn sum(x: u32, y: u32) -> u32
-    requires { (x < 2) × (y < 2) }
-    ensures { result ≡ (x + y) % 2 }
-{
-    residue::remainder((x + y) as u64, 2)
+    &digits[..h] == &digits[h..2 * h]
 }
 
 // The sum of the halves modulo 2 in the first h places.
@@ -78,21 +58,18 @@ fn add_halves(digits: &mut [u32; MAX_PERIOD], h: usize)
     ensures { (length digits.new ≡ max_period)
         × ((j : ℕ) → j < h → at digits.new j ≡ (at digits.old j + at digits.old (h + j)) % 2) }
 {
-    let mut j: usize = 0;
-    while j < h {
-        let x = sum(digits[j], digits[h + j]);
-        digits[j] = x;
-        j += 1;
+    for j in 0..h {
+        digits[j] = (digits[j] + digits[h + j]) % 2;
     }
 }
 
-// One comparison of the halves of the first `size` digits: leaves what to go on with in the first half, and says what to add to the total.
-fn halve_once(digits: &mut [u32; MAX_PERIOD], w: usize, size: usize) -> u32
-    requires { (suc w < periods) × (size ≡ 2 ^ suc w) × (length digits.old ≡ max_period) × Binary size digits.old }
-    ensures { (result ≤ size) × (length digits.new ≡ max_period) × Binary (size / 2) digits.new
+// One comparison of the halves of the first 2^(w + 1) digits: leaves what to go on with in the first half, and says what to add to the total.
+fn halve_once(digits: &mut [u32; MAX_PERIOD], w: usize) -> u32
+    requires { (suc w < periods) × (length digits.old ≡ max_period) × Binary (2 ^ suc w) digits.old }
+    ensures { (result ≤ 2 ^ suc w) × (length digits.new ≡ max_period) × Binary (2 ^ w) digits.new
         × (result + halving w digits.new ≡ halving (suc w) digits.old) }
 {
-    let h = size / 2;
+    let h = 1 << w;
     if equal_halves(digits, h) {
         return 0;
     }
@@ -100,21 +77,16 @@ fn halve_once(digits: &mut [u32; MAX_PERIOD], w: usize, size: usize) -> u32
     h as u32
 }
 
-// The length for the first n = 2^e digits.
-fn halve(digits: &mut [u32; MAX_PERIOD], e: usize, n: usize) -> u32
-    requires { (e < periods) × (n ≡ 2 ^ e) × (length digits.old ≡ max_period) × Binary n digits.old }
+// The length for the first 2^e digits.
+fn halve(digits: &mut [u32; MAX_PERIOD], e: usize) -> u32
+    requires { (e < periods) × (length digits.old ≡ max_period) × Binary (2 ^ e) digits.old }
     ensures { result ≡ halving e digits.old }
 {
-    let mut w = e;
-    let mut size = n;
-    let mut total: u32 = 0;
-    while 0 < w {
-        w -= 1;
-        total += halve_once(digits, w, size);
-        size = size / 2;
+    let mut total = 0;
+    for w in (0..e).rev() {
+        total += halve_once(digits, w);
     }
-    let last = digits[0];
-    total + last
+    total + digits[0]
 }
 
 // The length of the sequence whose period is lent as cells.
@@ -136,5 +108,5 @@ pub fn period_length(cells: &[u8]) -> Result<u32, Refusal>
     if i < n {
         return Err(Refusal::Term(i as u32));
     }
-    Ok(halve(&mut digits, w, n))
+    Ok(halve(&mut digits, w))
 }

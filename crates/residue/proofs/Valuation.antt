@@ -154,9 +154,11 @@ module _ (p e d : ℕ) where
   pub weighing_stop : (u θ : ℕ) → zero < d → Weighing p e d u θ → θ % p ≢ zero → (u ≡ valuation e p d) × (θ ≡ cofactor e p d)
   weighing_stop u θ pos w z = weighed u θ pos w (valuation_stop (e - u) p θ z)
 
-  pub weighing_end : (u θ : ℕ) → zero < d → Weighing p e d u θ → e ≤ u → (u ≡ valuation e p d) × (θ ≡ cofactor e p d)
+  pub weighing_end : (u θ : ℕ) → zero < d → Weighing p e d u θ → e ≤ u → (e ≡ valuation e p d) × (θ ≡ cofactor e p d)
   unfolding valuation
-  weighing_end u θ pos w h = weighed u θ pos w (ap (λ (x : ℕ). valuation x p θ) (let y : e - u ≡ zero = omega arith in y))
+  weighing_end u θ pos w h =
+      let f = weighed u θ pos w (ap (λ (x : ℕ). valuation x p θ) (let y : e - u ≡ zero = omega arith in y)) in
+      (omega (arith, w.few, f.0), f.1)
 
   pub weighing_zero : d ≡ zero → (e ≡ valuation e p d) × (1 ≡ cofactor e p d)
   unfolding cofactor

@@ -2,10 +2,12 @@
 #![tactic(auto)]
 
 ghost use Rattle.std.specs.Prelude.{◌≡◌, ◌+◌, ◌*◌, ◌/◌, ◌%◌, ◌^◌, ◌≤◌, ◌<◌};
+ghost use Rattle.std.specs.Iterator.{at_most};
 ghost use Rattle.residue.specs.Congruence.{neg};
 ghost use Rattle.residue.specs.Units.{Coprime, Bezout, inverse};
 ghost use Rattle.residue.specs.Valuation.{valuation, cofactor};
 ghost use Rattle.residue.specs.Factors.{divisors_end, least_divisor, least_power, value};
+ghost use Rattle.residue.specs.Splitting.{SplitsOff};
 ghost use Rattle.residue.specs.Remainders.{joined, two};
 ghost use Rattle.residue.specs.Reduction.{scale_of};
 ghost use Rattle.residue.specs.Signed.{residue_of};
@@ -18,18 +20,16 @@ use table::LEAST;
 // How many odd numbers there are below 4,096, where the table of least divisors stops.
 const ODD_NUMBERS: usize = 2048;
 
-// 2^48. To divide by it is a shift.
-const TWO_48: u64 = 281474976710656;
+// To divide by it is a shift.
+const TWO_48: u64 = 1 << 48;
 
 // The difference modulo m. Both are below m, so one comparison takes the place of a division.
+#[tactic(auto, using(crate::proofs::Congruence::difference, crate::proofs::Congruence::difference_under))]
 pub fn sub(x: u32, y: u32, m: u32) -> u32
     requires { (x < m) × (y < m) × (m < 65536) }
     ensures { result ≡ (x + neg m y) % m }
 {
-    if y <= x {
-        return x - y;
-    }
-    x + m - y
+    if y <= x { x - y } else { x + m - y }
 }
 
 // The product modulo m.
@@ -45,22 +45,16 @@ pub fn remainder(x: u64, q: u32) -> u32
     requires { 0 < q }
     ensures { result ≡ x % q }
 {
-    (x % (q as u64)) as u32
+    (x % u64::from(q)) as u32
 }
 
-// The remainder from 0 to m - 1 of a signed number. For one below zero n is how far it is below -1, which no value of the type overflows:
-// n is 0 for -1, and the highest value for the lowest.
+// The remainder from 0 to m - 1 of a signed number.
 // Rejected: -1 as 1; the lowest value off by one.
 pub fn of_signed(t: i32, m: u32) -> u32
     requires { 0 < m }
     ensures { result ≡ residue_of m t }
 {
-    if t < 0 {
-        let n = -(t + 1);
-        m - 1 - (n as u32) % m
-    } else {
-        (t as u32) % m
-    }
+    i64::from(t).rem_euclid(i64::from(m)) as u32
 }
 
 // What Euclid's division finds for a and m: a x + m y = 1 + a m.
@@ -101,11 +95,10 @@ pub fn power(p: u32, e: usize) -> u32
     requires { (0 < p) × (p ^ e < 65536) }
     ensures { result ≡ p ^ e }
 {
-    let mut r: u32 = 1;
-    let mut i: usize = 0;
-    while i < e {
-        r = r * p;
-        i += 1;
+    // No `pow`, which takes an exponent of 32 bits: 1 to any e is promised too.
+    let mut r = 1;
+    for _ in 0..e {
+        r *= p;
     }
     r
 }
@@ -125,16 +118,14 @@ pub fn weigh(d: u32, p: u32, e: usize) -> Weight
     if d == 0 {
         return Weight { u: e, theta: 1 };
     }
-    let mut u: usize = 0;
     let mut theta = d;
-    while u < e {
+    for u in 0..e {
         if theta % p != 0 {
-            return Weight { u: u, theta: theta };
+            return Weight { u, theta };
         }
-        theta = theta / p;
-        u += 1;
+        theta /= p;
     }
-    Weight { u: u, theta: theta }
+    Weight { u: e, theta }
 }
 
 // The number that `reduce` multiplies by, 2^48 / q + 1: taken once for each modulus.
@@ -142,7 +133,7 @@ pub fn scale(q: u32) -> u64
     requires { (0 < q) × (q < 65536) }
     ensures { result ≡ scale_of q }
 {
-    TWO_48 / (q as u64) + 1
+    TWO_48 / u64::from(q) + 1
 }
 
 // The remainder of x, which is below q^2. Two products are faster than a division: x m / 2^48 is the quotient.
@@ -150,11 +141,11 @@ pub fn reduce(x: u32, q: u32, m: u64) -> u32
     requires { (0 < q) × (q < 65536) × (x < q * q) × (m ≡ scale_of q) }
     ensures { result ≡ x % q }
 {
-    let t = (x as u64) * m / TWO_48;
+    let t = u64::from(x) * m / TWO_48;
     x - (t as u32) * q
 }
 
-// The least prime divisor of the odd number 2 i + 1, from the table. The array is made anew at each call: call it once for a prime, not for each term.
+// The least prime divisor of the odd number 2 i + 1, from the table.
 fn least_of_odd(i: usize) -> u16
     requires { 2 * i + 1 < divisors_end }
     ensures { result ≡ least_divisor (2 * i + 1) }
@@ -193,22 +184,57 @@ pub fn split(m: u32) -> Factor
     ensures { (result.prime ≡ (least_power m).prime) × (result.exponent ≡ (least_power m).exponent)
         × (result.value ≡ value (least_power m)) × (result.rest ≡ m / value (least_power m)) }
 {
-    let p = least_divisor(m as usize) as u32;
-    let w = weigh(m, p, m as usize);
-    let v = power(p, w.u);
+    let prime = u32::from(least_divisor(m as usize));
+    let w = weigh(m, prime, m as usize);
     Factor {
-        prime: p,
+        prime,
         exponent: w.u,
-        value: v,
+        value: power(prime, w.u),
         rest: w.theta,
     }
 }
 
-// What `join` multiplies by, the inverse of big modulo q: taken once for many remainders.
+// The prime powers of a number, the least prime first: `rest` is left to be split.
+#[derive(Drop)]
+pub struct PrimePowers {
+    pub rest: u32,
+    ghost small: { rest < divisors_end },
+}
+
+// The iterator over the prime powers of m.
+pub fn prime_powers(m: u32) -> PrimePowers
+    requires { m < divisors_end }
+    ensures { result.rest ≡ m }
+{
+    PrimePowers { rest: m }
+}
+
+impl Iterator for PrimePowers {
+    type Item = Factor;
+
+    ghost next_gives = { λ s f t. SplitsOff s.rest f t.rest };
+
+    ghost remaining = { λ s. at_most s.rest };
+
+    #[tactic(auto, using(crate::proofs::Factors::rest_lt))]
+    fn next(&mut self) -> Option<Factor> {
+        if self.rest <= 1 {
+            return None;
+        }
+        let f = split(self.rest);
+        self.rest = f.rest;
+        Some(f)
+    }
+}
+
+// What `join` and `meet` multiply by, the inverse of big modulo q: taken once for many remainders. Modulo 1 it is 0.
 pub fn joiner(big: u32, q: u32) -> u32
-    requires { (0 < big) × (1 < q) × (big * q < 65536) × Coprime big q }
+    requires { (0 < big) × (0 < q) × (big * q < 65536) × Coprime big q }
     ensures { result ≡ inverse q big }
 {
+    if q <= 1 {
+        return 0;
+    }
     inverse(big % q, q)
 }
 
@@ -234,19 +260,8 @@ pub fn common_divisor(a: u32, b: u32) -> u32
     common_divisor(r, a)
 }
 
-// What `meet` multiplies by, the inverse of mu modulo nu: taken once for many remainders. Modulo 1 it is 0.
-pub fn meeter(mu: u32, nu: u32) -> u32
-    requires { (0 < mu) × (0 < nu) × (mu * nu < 65536) × Coprime mu nu }
-    ensures { result ≡ inverse nu mu }
-{
-    if nu <= 1 {
-        return 0;
-    }
-    joiner(mu, nu)
-}
-
 // `join` for two moduli mu g and nu g with a divisor in common: the one number below mu nu g that leaves x and y, which agree modulo g.
-// To the base g its last digit is theirs, and its quotient is joined of their quotients. i is the meeter of mu and nu.
+// To the base g its last digit is theirs, and its quotient is joined of their quotients. i is the joiner of mu and nu.
 pub fn meet(x: u32, y: u32, mu: u32, nu: u32, g: u32, i: u32) -> u32
     requires { (x < mu * g) × (y < nu * g) × (x % g ≡ y % g) × (mu * nu * g < 65536) × Coprime mu nu × (i ≡ inverse nu mu) }
     ensures { result ≡ joined (mu * nu * g) (two (mu * g) x (nu * g) y) }

@@ -1,7 +1,7 @@
 use super::ODD_NUMBERS;
 
 // The least prime divisor of each odd number below 4,096: that of 2 i + 1 at place i. 1 has none and stands for itself.
-pub const LEAST: [u16; ODD_NUMBERS] = [
+pub static LEAST: [u16; ODD_NUMBERS] = [
     1, 3, 5, 7, 3, 11, 13, 3, 17, 19, 3, 23, 5, 3, 29, 31, 3, 5, 37, 3, 41, 43, 3, 47, 7, 3, 53, 5,
     3, 59, 61, 3, 5, 67, 3, 71, 73, 3, 7, 79, 3, 83, 5, 3, 89, 7, 3, 5, 97, 3, 101, 103, 3, 107,
     109, 3, 113, 5, 3, 7, 11, 3, 5, 127, 3, 131, 7, 3, 137, 139, 3, 11, 5, 3, 149, 151, 3, 5, 157,

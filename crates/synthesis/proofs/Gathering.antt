@@ -8,8 +8,9 @@ use Prim.Native.Nat.{ℕ, zero, ◌*◌, ◌/◌, ◌%◌, ◌^◌, ◌≤◌, �
 use native.Mathlib.Nat.{le_refl, le_antisymm, mul-mod_left, mul-mod_right, mod-lt, mul-le-mul_left, mul-le-mul_right, mul-one}
 use native.Mathlib.Decide.{dec_le, dec_lt}
 use native.Mathlib.Omega.{arith}
+use lib.Dec.{eqb}
 use lib.ListN.{length}
-use borrow.Author.Tests.{le-leb, lt-leb}
+use borrow.Author.Tests.{le-leb, lt-leb, eqb-true, eq-eqb}
 use Rattle.lists.specs.Table.{at, tabulate}
 use Rattle.lists.proofs.Among.{Among, here, there}
 use Rattle.lists.proofs.Table.{is_tabulate, at_tabulate}
@@ -214,15 +215,16 @@ module _ {m : ℕ} {S : List ℕ} {n Q R : ℕ} {a lengths : List ℕ} (g : Gath
   same_q : Q ≡ m
   same_q = sym (mul-one Q) ∙ ap (λ (k : ℕ). Q * k) (let e : 1 ≡ R = omega (arith, g.more) in e) ∙ g.whole
 
-  pub gathered_prime : (last : ℕ) → Last m Q last → last ≡ m → is_prime m ≡ true
-  gathered_prime last x e =
-      let w = x.among (omega (arith, same_q)) in
-      own_prime m w.0 wide w.1 (sym w.2 ∙ e)
+  -- the last prime is the modulus exactly when that is a prime
+  pub gathered_prime : (last : ℕ) → Last m Q last → eqb last m ≡ is_prime m
+  gathered_prime last x = go (eqb last m) refl
+    where
+      w : (f : PrimePower) × Among f (prime_powers m) × (last ≡ f.prime)
+      w = x.among (omega (arith, same_q))
 
-  pub gathered_other : (last : ℕ) → Last m Q last → last ≢ m → is_prime m ≡ false
-  gathered_other last x ne =
-      let w = x.among (omega (arith, same_q)) in
-      other_prime m w.0 w.1 (λ e. ne (w.2 ∙ e))
+      go : (t : Bool) → eqb last m ≡ t → t ≡ is_prime m
+      go true e = sym (own_prime m w.0 wide w.1 (sym w.2 ∙ eqb-true last m e))
+      go false e = sym (other_prime m w.0 w.1 (λ d. let same : true ≡ false = sym (eq-eqb last m (w.2 ∙ d)) ∙ e in (cc)))
 
   pub gathered_a : a ≡ tabulate max_cells (at (register m S n).a)
   gathered_a =

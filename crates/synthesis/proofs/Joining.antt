@@ -7,7 +7,7 @@ use native.Mathlib.Nat.{le_refl, mul-le-mul_left, mod-one, pow-zero}
 use native.Mathlib.Omega.{arith}
 use lib.ListN.{length, set, length-set}
 use Rattle.lists.specs.Table.{at}
-use Rattle.lists.proofs.Table.{each_next, each_skip, rest_next}
+use Rattle.lists.proofs.Table.{each_next, rest_next}
 use Rattle.residue.specs.Congruence.{Cong}
 use Rattle.residue.specs.Units.{Coprime}
 use Rattle.residue.specs.Remainders.{joined, two}
@@ -42,47 +42,21 @@ pub record Gluing (q r : ℕ) (xs₀ ys xs : List ℕ) (i : ℕ) : Type 0 where
   pub done : (j : ℕ) → j < i → Joint q r (at xs₀ j) (at ys j) (at xs j)
   pub todo : (j : ℕ) → i ≤ j → at xs j ≡ at xs₀ j
 
-module _ (q r : ℕ) (xs₀ ys xs : List ℕ) (i : ℕ) (g : Gluing q r xs₀ ys xs i) where
-  pub glue_next : (v : ℕ) → i < max_cells → Joint q r (at xs i) (at ys i) v → Gluing q r xs₀ ys (set xs i v) (i + 1)
-  glue_next v h k =
-      record {
-        long = length-set xs i v ∙ g.long;
-        done = each_next zero (λ (j : ℕ) (z : ℕ). Joint q r (at xs₀ j) (at ys j) z) xs i v g.done (omega (arith, g.long))
-            (subst (λ (x : ℕ). Joint q r x (at ys i) v) (g.todo i (le_refl i)) k);
-        todo = rest_next zero xs xs₀ i v g.todo;
-      }
-
-  pub glue_skip : Joint q r (at xs i) (at ys i) (at xs i) → Gluing q r xs₀ ys xs (i + 1)
-  glue_skip k =
-      record {
-        long = g.long;
-        done = each_skip (λ (j : ℕ). Joint q r (at xs₀ j) (at ys j) (at xs j)) i g.done
-            (subst (λ (x : ℕ). Joint q r x (at ys i) (at xs i)) (g.todo i (le_refl i)) k);
-        todo = λ j l. g.todo j (omega arith);
-      }
+pub glue_next : {q r : ℕ} {xs₀ ys xs : List ℕ} {i : ℕ} → Gluing q r xs₀ ys xs i → (v : ℕ) (xs' : List ℕ) → xs' ≡ set xs i v → i < max_cells
+    → Joint q r (at xs i) (at ys i) v → Gluing q r xs₀ ys xs' (i + 1)
+glue_next {q} {r} {xs₀} {ys} {xs} {i} g v xs' e h k =
+    subst (λ (zs : List ℕ). Gluing q r xs₀ ys zs (i + 1)) (sym e)
+    (record {
+      long = length-set xs i v ∙ g.long;
+      done = each_next zero (λ (j : ℕ) (z : ℕ). Joint q r (at xs₀ j) (at ys j) z) xs i v g.done (omega (arith, g.long))
+          (subst (λ (x : ℕ). Joint q r x (at ys i) v) (g.todo i (le_refl i)) k);
+      todo = rest_next zero xs xs₀ i v g.todo;
+    })
 
 pub record Raising (xs₀ ys xs : List ℕ) (i : ℕ) : Type 0 where
   pub long : length xs ≡ max_cells
   pub done : (j : ℕ) → j < i → at xs j ≡ max (at xs₀ j) (at ys j)
   pub todo : (j : ℕ) → i ≤ j → at xs j ≡ at xs₀ j
-
-module _ (xs₀ ys xs : List ℕ) (i : ℕ) (g : Raising xs₀ ys xs i) where
-  pub raise_next : i < max_cells → at xs i < at ys i → Raising xs₀ ys (set xs i (at ys i)) (i + 1)
-  raise_next h k =
-      record {
-        long = length-set xs i (at ys i) ∙ g.long;
-        done = each_next zero (λ (j : ℕ) (z : ℕ). z ≡ max (at xs₀ j) (at ys j)) xs i (at ys i) g.done (omega (arith, g.long))
-            (omega (arith, g.todo i (le_refl i)));
-        todo = rest_next zero xs xs₀ i (at ys i) g.todo;
-      }
-
-  pub raise_skip : at ys i ≤ at xs i → Raising xs₀ ys xs (i + 1)
-  raise_skip k =
-      record {
-        long = g.long;
-        done = each_skip (λ (j : ℕ). at xs j ≡ max (at xs₀ j) (at ys j)) i g.done (omega (arith, g.todo i (le_refl i)));
-        todo = λ j l. g.todo j (omega arith);
-      }
 
 -- ---- the steps at one more prime power
 

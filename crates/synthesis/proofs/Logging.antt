@@ -25,9 +25,6 @@ pub record Counting (m sum R : ℕ) : Type 0 where
   pub most : R ≤ m
   pub whole : sum + rows_over (prime_powers R) ≡ rows_over (prime_powers m)
 
-pub counting_start : (m : ℕ) → 1 < m → Counting m zero m
-counting_start m h = record { more = omega arith; most = le_refl m; whole = omega arith }
-
 module _ {m sum R : ℕ} (c : Counting m sum R) where
   pub counting_next : (e r : ℕ) → 1 < R → e ≡ (least_power R).exponent → r ≡ R / value (least_power R) → Counting m (sum + e) r
   counting_next e r big he hr =

@@ -32,16 +32,10 @@ fn join_cells(a: &mut [u32; CELLS], big: u32, row: &[u32; CELLS], q: u32)
     ensures { Glued big q a.old row.now a.new }
 {
     let unit = residue::joiner(big, q);
-    let mut i: usize = 0;
-    while i < CELLS {
-        let z = a[i];
-        let x = row[i];
-        if z == x {
-            i += 1;
-            continue;
+    for (i, z) in a.iter_mut().enumerate() {
+        if *z != row[i] {
+            *z = residue::join(*z, big, row[i], q, unit);
         }
-        a[i] = residue::join(z, big, x, q, unit);
-        i += 1;
     }
 }
 
@@ -50,15 +44,8 @@ fn raise(lengths: &mut [u32; CELLS], lens: &[u32; CELLS])
     requires { length lengths.old ≡ max_cells }
     ensures { Raised lengths.old lens.now lengths.new }
 {
-    let mut i: usize = 0;
-    while i < CELLS {
-        let l = lens[i];
-        if l <= lengths[i] {
-            i += 1;
-            continue;
-        }
-        lengths[i] = l;
-        i += 1;
+    for (i, l) in lengths.iter_mut().enumerate() {
+        *l = (*l).max(lens[i]);
     }
 }
 
@@ -92,7 +79,7 @@ fn extend(
 }
 
 // a and the lengths, and the records of the steps, from the prime powers of the modulus, the least prime first. Replies whether the modulus is
-// prime: the primes are at hand here, and to look its least divisor up once more would make the table of divisors a second time.
+// prime: the primes are at hand here.
 // Rejected: a prime power taken for a prime; every modulus; 2 not taken for one.
 fn gather(
     modulus: u32,
@@ -112,20 +99,14 @@ fn gather(
     let mut big: u32 = 1;
     let mut first: usize = 0;
     let mut last: u32 = 1;
-    let mut rest = modulus;
-    while 1 < rest {
-        let f = residue::split(rest);
+    for f in residue::prime_powers(modulus) {
         let ring = Ring::new(f.prime, f.exponent, f.value);
         extend(ring, big, terms, count, a, lengths, log, first);
-        big = big * f.value;
+        big *= f.value;
         first += count * f.exponent;
         last = f.prime;
-        rest = f.rest;
     }
-    if last != modulus {
-        return false;
-    }
-    true
+    last == modulus
 }
 
 // b from a: the register generates its terms, so that b_j is coefficient j of terms times a, and it has only l cells. So b is found
@@ -135,10 +116,8 @@ pub fn start_cells(a: &[u32; CELLS], terms: &[u32; TERMS], l: usize, m: u32) -> 
     ensures { Starts terms.now a.now l m result }
 {
     let mut b = [0u32; TERMS];
-    let mut i: usize = 0;
-    while i < l {
+    for i in 0..l {
         b[i] = steps::coefficient(a, terms, i, i, m);
-        i += 1;
     }
     b
 }
@@ -149,11 +128,8 @@ pub fn count_rows(modulus: u32) -> usize
     ensures { (result ≡ rows_over (prime_powers modulus)) × (result ≤ max_rows) }
 {
     let mut sum: usize = 0;
-    let mut rest = modulus;
-    while 1 < rest {
-        let f = residue::split(rest);
+    for f in residue::prime_powers(modulus) {
         sum += f.exponent;
-        rest = f.rest;
     }
     sum
 }
@@ -171,11 +147,11 @@ pub fn trace(modulus: u32, terms: &[u32; TERMS], count: usize, log: &mut [u64]) 
     let length = lengths[count];
     let b = start_cells(&a, terms, length as usize, modulus);
     Synthesis {
-        length: length,
-        a: a,
-        b: b,
-        lengths: lengths,
-        prime: prime,
+        length,
+        a,
+        b,
+        lengths,
+        prime,
     }
 }
 
@@ -184,8 +160,7 @@ pub fn synthesize(modulus: u32, terms: &[u32; TERMS], count: usize) -> Synthesis
     requires { (2 ≤ modulus) × (modulus < divisors_end) × (count ≤ max_terms) × Below max_terms 65536 terms.now }
     ensures { result ≡ synthesis_of modulus terms.now count }
 {
-    let mut empty = [0u64; 1];
-    trace(modulus, terms, count, &mut empty[0..0])
+    trace(modulus, terms, count, &mut [])
 }
 
 // The length alone.
@@ -195,14 +170,6 @@ pub fn complexity(modulus: u32, terms: &[u32; TERMS], count: usize) -> u32
 {
     let mut a = [0u32; CELLS];
     let mut lengths = [0u32; CELLS];
-    let mut empty = [0u64; 1];
-    gather(
-        modulus,
-        terms,
-        count,
-        &mut a,
-        &mut lengths,
-        &mut empty[0..0],
-    );
+    gather(modulus, terms, count, &mut a, &mut lengths, &mut []);
     lengths[count]
 }

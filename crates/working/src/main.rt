@@ -6,7 +6,7 @@ ghost use Rattle.std.specs.Prelude.{◌≤◌};
 ghost use Rattle.steps.specs.Sizes.{log_words};
 
 use input::Typed;
-use sequence::{A_BYTES, B_BYTES, Outcome, QUERY_BYTES, Refusal, Reported, Sequence};
+use sequence::{A_BYTES, B_BYTES, QUERY_BYTES, Refusal, Sequence};
 use std::env::{Env, FillError};
 use std::io;
 use std::io::{Read, Write};
@@ -32,25 +32,25 @@ fn table<W: Write>(out: &mut W, log: &[u64; LOG], count: usize) -> io::Result<()
 }
 
 // The register and the working. The log has room for every sheet, so that nothing is refused here that `check` passes.
-fn show<W: Write>(out: &mut W, s: Sequence) -> io::Result<()> {
+fn show<W: Write>(out: &mut W, s: &Sequence) -> io::Result<()> {
     let mut a = [0u8; A_BYTES];
     let mut b = [0u8; B_BYTES];
     let mut log = [0u64; LOG];
-    let w = sequence::work(s, &mut a, &mut b, LOG, &mut log);
-    let reply = w.reply;
-    printing::line(out, &formatting::reported_line(s, reply, &a))?;
-    printing::line(out, &formatting::uniqueness_line(reply))?;
-    match reply {
-        Reported::Refused(_) => Ok(()),
-        Reported::Length(_, _) => table(out, &log, w.count),
+    match s.work(&mut a, &mut b, LOG, &mut log) {
+        Ok(worked) => {
+            let report = Ok(worked.report);
+            printing::line(out, &formatting::reported_line(s, report, &a))?;
+            printing::line(out, &formatting::uniqueness_line(report))?;
+            table(out, &log, worked.count)
+        }
+        Err(r) => printing::line(out, &formatting::refusal_line(r)),
     }
 }
 
 fn one<W: Write>(out: &mut W, query: &[u8]) -> io::Result<()> {
-    let c = sequence::check(query);
-    match c.outcome {
-        Outcome::Refused(r) => printing::line(out, &formatting::refusal_line(r)),
-        Outcome::Done => show(out, c.sequence),
+    match sequence::check(query) {
+        Ok(s) => show(out, &s),
+        Err(r) => printing::line(out, &formatting::refusal_line(r)),
     }
 }
 
@@ -63,8 +63,8 @@ fn queries<R: Read, W: Write>(reader: &mut R, out: &mut W) -> io::Result<()> {
 fn answer<W: Write>(out: &mut W, line: &[u8]) -> io::Result<()> {
     let mut query = [0u8; QUERY_BYTES];
     match lines::read_line(line, &mut query) {
-        Outcome::Refused(r) => printing::line(out, &formatting::refusal_line(r)),
-        Outcome::Done => one(out, &query),
+        Ok(()) => one(out, &query),
+        Err(r) => printing::line(out, &formatting::refusal_line(r)),
     }
 }
 

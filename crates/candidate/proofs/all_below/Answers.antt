@@ -1,17 +1,12 @@
 -- `candidate::all_below` meets its contract: below i every cell passes the test.
 -- Assumes nothing.
 use mathlib.Core.Path.{sym}
-use native.Mathlib.Nat.{not-suc-le-zero}
 use native.Mathlib.Omega.{arith}
 use borrow.Author.Count.{below_more}
-use borrow.Author.Rules.{rules}
 use borrow.Author.Tests.{lt-ltb, le-ltb}
 use Rattle.lists.proofs.Search.{all_true, all_false}
 use Rattle.cells.proofs.Laws.{at_cells}
 use Rattle.candidate.proofs.all_below.Goals as goal
-
-pub loop-i-init : goal.loop-i-init
-loop-i-init c = (search rules, λ j h. absurd (not-suc-le-zero h))
 
 pub returns-then-m-cell : goal.returns-then-m-cell
 returns-then-m-cell c =
@@ -21,7 +16,7 @@ returns-then-m-cell c =
 pub loop-i-preserved : goal.loop-i-preserved
 loop-i-preserved c =
     let h = c.loop-i-test.true in
-    (omega arith, below_more _ _ c.loop-i.invariant.1 (rw (at_cells _ _ _ h, ← c.cell.ensures.0) (lt-ltb _ _ c.if-m-cell.false)))
+    below_more _ _ c.loop-i.invariant (rw (at_cells _ _ _ h, ← c.cell.ensures.0) (lt-ltb _ _ c.if-m-cell.false))
 
 pub returns : goal.returns
-returns c = sym (all_true _ _ (λ j h. c.loop-i.invariant.1 j (omega arith)))
+returns c = sym (all_true _ _ (λ j h. c.loop-i.invariant j (omega arith)))

@@ -2,7 +2,7 @@
 -- Assumes nothing.
 use mathlib.Core.Path.{◌≡◌}
 use mathlib.Core.Bool.{true}
-use Prim.Native.Nat.{ℕ, ◌-◌, ◌≤◌, ◌<◌}
+use Prim.Native.Nat.{ℕ, ◌<◌}
 use lib.Dec.{ltb}
 use Rattle.lists.specs.Table.{at}
 use Rattle.cells.specs.Cell.{cells_from}
@@ -10,8 +10,4 @@ use Rattle.candidate.proofs.all_below.Given as goal
 
 abbrev pub invariant-loop-i : goal.invariant-loop-i
 invariant-loop-i l =
-    (l.i ≤ l.n) × ((j : ℕ) → j < l.i → ltb (at (cells_from l.s 0 l.n) j) l.m ≡ true)
-
-abbrev pub decreases-loop-i : goal.decreases-loop-i
-decreases-loop-i l =
-    l.n - l.i
+    (j : ℕ) → j < l.i → ltb (at (cells_from l.s 0 l.n) j) l.m ≡ true

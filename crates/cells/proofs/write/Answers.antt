@@ -9,18 +9,10 @@ use Rattle.cells.proofs.write.Goals as goal
 pub loop-i-init : goal.loop-i-init
 loop-i-init c = written_none c.requires
 
-pub put-requires : goal.put-requires
-put-requires c =
-    let l = c.loop-i in
-    omega (arith, l.invariant.size)
-
 pub loop-i-preserved : goal.loop-i-preserved
 loop-i-preserved c =
     let h : c.loop-i.i < length c.args.values.now = omega (arith, c.loop-i.invariant.within) in
     written_more c.requires _ c.loop-i.invariant h c.put.ensures
-
-pub shape_of-out : goal.shape_of-out
-shape_of-out c = c.loop-i.invariant.size
 
 pub returns : goal.returns
 returns c = written_all c.requires c.loop-i.invariant c.loop-i-test.false

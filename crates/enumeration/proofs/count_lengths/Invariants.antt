@@ -1,13 +1,8 @@
 -- `enumeration::count_lengths` meets its contract: the cells count the first x sequences.
 -- Assumes nothing.
-use Prim.Native.Nat.{◌-◌, ◌≤◌}
 use Rattle.enumeration.proofs.Loops.{Tallied}
 use Rattle.enumeration.proofs.count_lengths.Given as goal
 
 abbrev pub invariant-loop-x : goal.invariant-loop-x
 invariant-loop-x l =
-    (l.x ≤ l.k) × Tallied l.m l.n l.x l.counts
-
-abbrev pub decreases-loop-x : goal.decreases-loop-x
-decreases-loop-x l =
-    l.k - l.x
+    Tallied l.m l.n l.x l.counts

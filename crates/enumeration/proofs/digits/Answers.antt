@@ -1,20 +1,15 @@
 -- `enumeration::digits` meets its contract: the digits are read off from the last place to the first.
 -- Assumes nothing.
-use native.Mathlib.Nat.{div-le_self}
+use mathlib.Core.Path.{refl}
 use native.Mathlib.Omega.{arith}
 use Rattle.enumeration.proofs.Loops.{parted_none, parted_more, parted_all}
 use Rattle.enumeration.proofs.digits.Goals as goal
 
-pub loop-j-init : goal.loop-j-init
-loop-j-init c = (omega arith, omega arith, parted_none _ (omega arith))
+pub loop-i-init : goal.loop-i-init
+loop-i-init c = parted_none
 
-pub overflow_cast-left : goal.overflow_cast-left
-overflow_cast-left c = omega (arith, c.loop-j.invariant.1)
-
-pub loop-j-preserved : goal.loop-j-preserved
-loop-j-preserved c =
-    let l = c.loop-j in
-    (omega arith, omega (arith, div-le_self l.left c.args.m), parted_more _ _ _ c.requires.1 (omega (arith, c.loop-j-test.true)) (omega arith) l.invariant.2 c.remainder.ensures)
+pub loop-i-preserved : goal.loop-i-preserved
+loop-i-preserved c = parted_more _ _ c.requires.1 (omega arith) c.loop-i.invariant refl
 
 pub returns : goal.returns
-returns c = parted_all (omega (arith, c.loop-j-test.false)) c.loop-j.invariant.2
+returns c = parted_all (omega (arith, c.loop-i-test.false)) c.loop-i.invariant

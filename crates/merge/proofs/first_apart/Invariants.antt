@@ -2,15 +2,11 @@
 -- Assumes nothing.
 use mathlib.Core.Path.{◌≡◌}
 use mathlib.Core.Bool.{false, not}
-use Prim.Native.Nat.{ℕ, ◌-◌, ◌%◌, ◌≤◌, ◌<◌}
+use Prim.Native.Nat.{ℕ, ◌%◌, ◌<◌}
 use lib.Dec.{eqb}
 use Rattle.lists.specs.Table.{at}
 use Rattle.merge.proofs.first_apart.Given as goal
 
 abbrev pub invariant-loop-i : goal.invariant-loop-i
 invariant-loop-i l =
-    (l.i ≤ l.n) × ((j : ℕ) → j < l.i → not (eqb (at l.xs j % l.g) (at l.ys j % l.g)) ≡ false)
-
-abbrev pub decreases-loop-i : goal.decreases-loop-i
-decreases-loop-i l =
-    l.n - l.i
+    (j : ℕ) → j < l.i → not (eqb (at l.xs j % l.g) (at l.ys j % l.g)) ≡ false

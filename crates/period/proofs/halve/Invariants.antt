@@ -5,8 +5,4 @@ use Rattle.period.proofs.halve.Given as goal
 
 abbrev pub invariant-loop-w : goal.invariant-loop-w
 invariant-loop-w l =
-    Going l.initial.digits l.e l.digits l.w l.size l.total
-
-abbrev pub decreases-loop-w : goal.decreases-loop-w
-decreases-loop-w l =
-    l.w
+    Going l.initial.digits l.e l.digits l.w l.total

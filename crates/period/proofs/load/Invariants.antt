@@ -2,7 +2,7 @@
 -- Assumes nothing.
 use mathlib.Core.Path.{◌≡◌}
 use mathlib.Core.Bool.{false}
-use Prim.Native.Nat.{ℕ, ◌-◌, ◌≤◌, ◌<◌}
+use Prim.Native.Nat.{ℕ, ◌<◌}
 use lib.Dec.{leb}
 use Rattle.lists.specs.Table.{at}
 use Rattle.lists.proofs.Table.{Filled}
@@ -12,8 +12,4 @@ use Rattle.period.proofs.load.Given as goal
 
 abbrev pub invariant-loop-i : goal.invariant-loop-i
 invariant-loop-i l =
-    (l.i ≤ l.n) × ((j : ℕ) → j < l.i → leb 2 (at (cells_from l.cells 0 l.n) j) ≡ false) × (Filled 0 (λ (j : ℕ). cell_at l.cells j) max_period l.i l.digits)
-
-abbrev pub decreases-loop-i : goal.decreases-loop-i
-decreases-loop-i l =
-    l.n - l.i
+    ((j : ℕ) → j < l.i → leb 2 (at (cells_from l.cells 0 l.n) j) ≡ false) × (Filled 0 (λ (j : ℕ). cell_at l.cells j) max_period l.i l.digits)

@@ -29,11 +29,11 @@ returns-then-i-n c =
 
 pub halve-requires : goal.halve-requires
 halve-requires c =
-    let a = c.args in (
+    let a = c.args in
+    let size = (period_power a.cells.now c.if-cells-ne0.false _ c.exponent-w.ensures c.if-w-ge-PERIODS.false).0 in (
       c.if-w-ge-PERIODS.false,
-      (period_power a.cells.now c.if-cells-ne0.false _ c.exponent-w.ensures c.if-w-ge-PERIODS.false).0,
       c.load-i.ensures.1,
-      λ j h. loaded_small a.cells.now _ _ c.load-i.ensures.0 c.if-i-n.false j _ h (c.load-i.ensures.2 j),
+      λ j h. loaded_small a.cells.now _ _ c.load-i.ensures.0 c.if-i-n.false j _ (omega (arith, size, h)) (c.load-i.ensures.2 j),
     )
 
 pub returns : goal.returns

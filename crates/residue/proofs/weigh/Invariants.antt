@@ -1,13 +1,8 @@
 -- `residue::weigh` meets its contract. The loop has divided d by p u times; what is left to divide is e - u.
 -- Assumes nothing.
-use Prim.Native.Nat.{◌-◌}
 use Rattle.residue.proofs.Valuation.{Weighing}
 use Rattle.residue.proofs.weigh.Given as goal
 
 abbrev pub invariant-loop-u : goal.invariant-loop-u
 invariant-loop-u l =
     Weighing l.p l.e l.d l.u l.theta
-
-abbrev pub decreases-loop-u : goal.decreases-loop-u
-decreases-loop-u l =
-    l.e - l.u

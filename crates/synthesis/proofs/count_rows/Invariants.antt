@@ -3,10 +3,6 @@
 use Rattle.synthesis.proofs.Logging.{Counting}
 use Rattle.synthesis.proofs.count_rows.Given as goal
 
-abbrev pub invariant-loop-rest : goal.invariant-loop-rest
-invariant-loop-rest l =
-    Counting l.modulus l.sum l.rest
-
-abbrev pub decreases-loop-rest : goal.decreases-loop-rest
-decreases-loop-rest l =
-    l.rest
+abbrev pub invariant-loop-f : goal.invariant-loop-f
+invariant-loop-f l =
+    Counting l.modulus l.sum l.f-iterator.rest
