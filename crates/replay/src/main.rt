@@ -5,21 +5,73 @@
 ghost use Rattle.std.specs.Prelude.{◌≤◌};
 ghost use Rattle.steps.specs.Sizes.{log_words};
 
-use candidate::Verdict;
-use catalogue::LookedUp;
-use period::Measured;
-use sequence::{Outcome, QUERY_BYTES, Reported, Sequence};
+use batch::Batch;
+use sequence::{QUERY_BYTES, Refusal, Report, Sequence};
 use std::io;
 use std::io::{Read, Write};
 use steps::{LOG, StepRecord};
 
-// Where an FNV-1a hash of 32 bits starts.
+// The lengths of a call's buffers have two bytes each, so this holds every one.
+const ROOM: usize = 65536;
+
+// Where an FNV-1a hash of 32 bits starts, and what it multiplies by.
 const START: u32 = 2166136261;
 
-// A call's header. The lengths x, y, z have two bytes, so a buffer of 65,536 bytes holds each.
-#[derive(Drop)]
+const FACTOR: u32 = 16777619;
+
+// The operations, in the order of their numbers in a script.
+#[derive(Clone, Copy)]
+enum Operation {
+    Open,
+    Push,
+    Register,
+    Profile,
+    Verify,
+    Generate,
+    Synthesize,
+    LookUp,
+    Forge,
+    Trace,
+    ReadLine,
+    PushAll,
+    Merge,
+    PeriodLength,
+    Enumerate,
+    Tally,
+    LookUpBatch,
+}
+
+impl TryFrom<u8> for Operation {
+    type Error = Stop;
+
+    fn try_from(number: u8) -> Result<Operation, Stop> {
+        match number {
+            0 => Ok(Operation::Open),
+            1 => Ok(Operation::Push),
+            2 => Ok(Operation::Register),
+            3 => Ok(Operation::Profile),
+            4 => Ok(Operation::Verify),
+            5 => Ok(Operation::Generate),
+            6 => Ok(Operation::Synthesize),
+            7 => Ok(Operation::LookUp),
+            8 => Ok(Operation::Forge),
+            9 => Ok(Operation::Trace),
+            10 => Ok(Operation::ReadLine),
+            11 => Ok(Operation::PushAll),
+            12 => Ok(Operation::Merge),
+            13 => Ok(Operation::PeriodLength),
+            14 => Ok(Operation::Enumerate),
+            15 => Ok(Operation::Tally),
+            16 => Ok(Operation::LookUpBatch),
+            _ => Err(Stop::Unknown(number)),
+        }
+    }
+}
+
+// A call's header.
+#[derive(Clone, Copy)]
 struct Call {
-    operation: u8,
+    operation: Operation,
     fill: u8,
     number: u32,
     x: u16,
@@ -28,131 +80,144 @@ struct Call {
     l: u16,
 }
 
-// The payload of an enumeration: how many terms, and the sequence's number.
+impl TryFrom<[u8; 16]> for Call {
+    type Error = Stop;
+
+    fn try_from(h: [u8; 16]) -> Result<Call, Stop> {
+        Ok(Call {
+            operation: Operation::try_from(h[0])?,
+            fill: h[1],
+            number: u32::from_le_bytes([h[4], h[5], h[6], h[7]]),
+            x: u16::from_le_bytes([h[8], h[9]]),
+            y: u16::from_le_bytes([h[10], h[11]]),
+            z: u16::from_le_bytes([h[12], h[13]]),
+            l: u16::from_le_bytes([h[14], h[15]]),
+        })
+    }
+}
+
+// Why no more calls are made: the script ends, whether behind a call or within one, or has something that is no call, or reading or writing
+// fails.
 #[derive(Drop)]
-struct Numbered {
-    count: u32,
-    number: u64,
+enum Stop {
+    Ended,
+    CutShort,
+    BadForge,
+    Unknown(u8),
+    Failed(io::Error),
 }
 
-// The sequence held after a call, and whether the script goes on.
-#[derive(Drop)]
-struct Turn {
-    sequence: Sequence,
-    going: bool,
-}
-
-fn pair(low: u8, high: u8) -> u16 {
-    (low as u16) + 256 * (high as u16)
-}
-
-fn number(low: u16, high: u16) -> u32 {
-    (low as u32) + 65536 * (high as u32)
-}
-
-fn parse(h: &[u8; 16]) -> Call {
-    Call {
-        operation: h[0],
-        fill: h[1],
-        number: number(pair(h[4], h[5]), pair(h[6], h[7])),
-        x: pair(h[8], h[9]),
-        y: pair(h[10], h[11]),
-        z: pair(h[12], h[13]),
-        l: pair(h[14], h[15]),
+impl From<io::Error> for Stop {
+    fn from(e: io::Error) -> Stop {
+        Stop::Failed(e)
     }
 }
 
-fn parse_count(p: &[u8; 4]) -> u32 {
-    number(pair(p[0], p[1]), pair(p[2], p[3]))
+// What a call gives that is not refused, in the words of the text.
+trait Reply: Drop {
+    fn print<W: Write>(self, out: &mut W) -> io::Result<()>;
 }
 
-fn long(low: u32, high: u32) -> u64 {
-    (low as u64) + 4294967296 * (high as u64)
-}
-
-fn parse_numbered(p: &[u8; 12]) -> Numbered {
-    let low = number(pair(p[4], p[5]), pair(p[6], p[7]));
-    let high = number(pair(p[8], p[9]), pair(p[10], p[11]));
-    Numbered {
-        count: number(pair(p[0], p[1]), pair(p[2], p[3])),
-        number: long(low, high),
+impl Reply for () {
+    fn print<W: Write>(self, out: &mut W) -> io::Result<()> {
+        printing::text(out, b"ok")
     }
 }
 
-// Fills buf from the script; says whether the script ends too early.
-fn is_cut<R: Read>(reader: &mut R, buf: &mut [u8]) -> io::Result<bool> {
-    let n = input::read_full(reader, buf)?;
-    Ok(n < buf.len())
-}
-
-fn outcome<W: Write>(out: &mut W, o: Outcome) -> io::Result<()> {
-    match o {
-        Outcome::Done => printing::text(out, b"ok"),
-        Outcome::Refused(r) => printing::refused(out, r),
+// A length.
+impl Reply for u32 {
+    fn print<W: Write>(self, out: &mut W) -> io::Result<()> {
+        printing::text(out, b"length ")?;
+        printing::number(out, u64::from(self))
     }
 }
 
-fn reported<W: Write>(out: &mut W, r: Reported) -> io::Result<()> {
-    match r {
-        Reported::Length(l, w) => {
-            printing::text(out, b"length ")?;
-            printing::number(out, l as u64)?;
-            printing::text(out, b" ")?;
-            printing::uniqueness(out, w)
+impl Reply for Report {
+    fn print<W: Write>(self, out: &mut W) -> io::Result<()> {
+        self.length.print(out)?;
+        printing::text(out, b" ")?;
+        printing::uniqueness(out, self.uniqueness)
+    }
+}
+
+// The first place where a candidate differs from a query.
+#[derive(Clone, Copy)]
+struct Verdict(Option<u32>);
+
+impl Reply for Verdict {
+    fn print<W: Write>(self, out: &mut W) -> io::Result<()> {
+        match self.0 {
+            None => printing::text(out, b"yes"),
+            Some(i) => {
+                printing::text(out, b"no ")?;
+                printing::number(out, u64::from(i))
+            }
         }
-        Reported::Refused(r) => printing::refused(out, r),
     }
 }
 
-// x times the factor of FNV, in 32 bits. The product is taken in 64, so that nothing wraps.
-fn scaled(x: u32) -> u32 {
-    ((x as u64) * 16777619 % 4294967296) as u32
+// The place of a query's record in a catalogue.
+#[derive(Clone, Copy)]
+struct Place(Option<usize>);
+
+impl Reply for Place {
+    fn print<W: Write>(self, out: &mut W) -> io::Result<()> {
+        match self.0 {
+            None => printing::text(out, b"made"),
+            Some(i) => {
+                printing::text(out, b"found ")?;
+                printing::number(out, i as u64)
+            }
+        }
+    }
 }
 
-// One byte more in an FNV-1a hash.
-fn mixed(h: u32, byte: u8) -> u32 {
-    scaled(h ^ (byte as u32))
+impl Reply for Batch {
+    fn print<W: Write>(self, out: &mut W) -> io::Result<()> {
+        printing::text(out, b"found ")?;
+        printing::number(out, self.found as u64)?;
+        printing::text(out, b" made ")?;
+        printing::number(out, self.made as u64)?;
+        printing::text(out, b" refused ")?;
+        printing::number(out, self.refused as u64)
+    }
+}
+
+// A buffer that a call writes to, with a byte in each place.
+fn filled(room: &mut [u8; ROOM], length: u16, byte: u8) -> &mut [u8] {
+    let part = &mut room[..usize::from(length)];
+    part.fill(byte);
+    part
+}
+
+// An FNV-1a hash of 32 bits with more bytes in it.
+fn mixed(hash: u32, bytes: &[u8]) -> u32 {
+    bytes
+        .iter()
+        .fold(hash, |h, b| (h ^ u32::from(*b)).wrapping_mul(FACTOR))
+}
+
+fn hash(bytes: &[u8]) -> u32 {
+    mixed(START, bytes)
 }
 
 // A cell's two bytes more. (A cell of a sequence is below 65,536.)
-fn mixed_cell(h: u32, v: u32) -> u32 {
-    let low = mixed(h, (v % 256) as u8);
-    mixed(low, (v / 256 % 256) as u8)
-}
-
-// A number's four bytes more.
-fn mixed_number(h: u32, v: u32) -> u32 {
-    let low = mixed_cell(h, v % 65536);
-    mixed_cell(low, v / 65536)
-}
-
-fn mixed_pair(h: u32, v: u32, w: u32) -> u32 {
-    mixed_number(mixed_number(h, v), w)
-}
-
-// A record's eight numbers more.
-fn mixed_record(h: u32, x: StepRecord) -> u32 {
-    let place = mixed_pair(h, x.power, x.k);
-    let row = mixed_pair(place, x.row, x.length);
-    let discrepancy = mixed_pair(row, x.u, x.theta);
-    mixed_pair(discrepancy, x.g, x.case)
-}
-
-fn hash(s: &[u8]) -> u32 {
-    let mut h = START;
-    for byte in s {
-        h = mixed(h, *byte);
-    }
-    h
+fn mixed_cell(hash: u32, v: u32) -> u32 {
+    let [low, high, _, _] = v.to_le_bytes();
+    mixed(hash, &[low, high])
 }
 
 // The hash of the 260 bytes that write a sequence down.
-fn hash_sequence(s: Sequence) -> u32 {
-    let mut h = mixed_cell(mixed_cell(START, s.modulus), s.count);
-    for term in &s.terms {
-        h = mixed_cell(h, *term);
-    }
-    h
+fn hash_sequence(s: &Sequence) -> u32 {
+    let start = mixed_cell(mixed_cell(START, s.modulus), s.count);
+    s.terms.iter().fold(start, |h, t| mixed_cell(h, *t))
+}
+
+// A record's eight numbers more.
+fn mixed_record(hash: u32, x: StepRecord) -> u32 {
+    [x.power, x.k, x.row, x.length, x.u, x.theta, x.g, x.case]
+        .iter()
+        .fold(hash, |h, n| mixed(h, &n.to_le_bytes()))
 }
 
 // The hash of the first records of a log.
@@ -166,600 +231,304 @@ fn hash_log(log: &[u64; LOG], count: usize) -> u32
     h
 }
 
-fn print_hash<W: Write>(out: &mut W, h: u32) -> io::Result<()> {
-    write!(out, " {h:08x}")
-}
-
-fn end_hash<W: Write>(out: &mut W, h: u32) -> io::Result<()> {
-    print_hash(out, h)?;
-    printing::text(out, b"\n")
-}
-
-fn stopped(s: Sequence) -> Turn {
-    Turn {
-        sequence: s,
-        going: false,
-    }
-}
-
-// The turn after a call, with the sequence that is held then; the script ends where it does not have the whole call.
-fn kept<W: Write>(whole: bool, out: &mut W, s: Sequence) -> io::Result<Turn> {
-    if whole {
-        return Ok(Turn {
-            sequence: s,
-            going: true,
-        });
-    }
-    printing::text(out, b"script cut short\n")?;
-    Ok(stopped(s))
-}
-
-// Ends the line of a call that may replace the sequence held.
-fn held<W: Write>(out: &mut W, s: Sequence) -> io::Result<Turn> {
-    end_hash(out, hash_sequence(s))?;
-    Ok(Turn {
-        sequence: s,
-        going: true,
-    })
-}
-
-fn open<W: Write>(out: &mut W, modulus: u32) -> io::Result<Turn> {
-    let o = sequence::open(modulus);
-    printing::text(out, b"open ")?;
-    let r = o.outcome;
-    outcome(out, r)?;
-    held(out, o.sequence)
-}
-
-fn push<W: Write>(out: &mut W, s: Sequence, term: u32) -> io::Result<Turn> {
-    let p = sequence::push(s, term);
-    printing::text(out, b"push ")?;
-    let r = p.outcome;
-    outcome(out, r)?;
-    held(out, p.sequence)
-}
-
-// Of each call with buffers, NAME lends them, and NAME_in makes the call in their parts of the stated lengths.
-fn push_all_in<R: Read, W: Write>(
-    reader: &mut R,
-    out: &mut W,
-    s: Sequence,
-    list: &mut [u8],
-) -> io::Result<Turn> {
-    if is_cut(reader, list)? {
-        return kept(false, out, s);
-    }
-    let p = column::push_all(s, list);
-    printing::text(out, b"push_all taken ")?;
-    printing::number(out, p.taken as u64)?;
-    printing::text(out, b" ")?;
-    let r = p.outcome;
-    outcome(out, r)?;
-    let after = p.sequence;
-    print_hash(out, hash_sequence(after))?;
-    end_hash(out, hash(list))?;
-    kept(true, out, after)
-}
-
-fn push_all<R: Read, W: Write>(
-    reader: &mut R,
-    out: &mut W,
-    s: Sequence,
-    c: Call,
-) -> io::Result<Turn> {
-    let x = c.x as usize;
-    let mut list = [0u8; 65536];
-    push_all_in(reader, out, s, &mut list[0..x])
-}
-
-fn register_in<W: Write>(out: &mut W, s: Sequence, a: &mut [u8], b: &mut [u8]) -> io::Result<()> {
-    let r = sequence::register(s, a, b);
-    printing::text(out, b"register ")?;
-    reported(out, r)?;
-    print_hash(out, hash(a))?;
-    end_hash(out, hash(b))
-}
-
-fn register<W: Write>(out: &mut W, s: Sequence, c: Call) -> io::Result<Turn> {
-    let fill = c.fill;
-    let x = c.x as usize;
-    let y = c.y as usize;
-    let mut a = [fill; 65536];
-    let mut b = [fill; 65536];
-    register_in(out, s, &mut a[0..x], &mut b[0..y])?;
-    kept(true, out, s)
-}
-
-fn profile_in<W: Write>(out: &mut W, s: Sequence, cells: &mut [u8]) -> io::Result<()> {
-    let o = sequence::profile(s, cells);
-    printing::text(out, b"profile ")?;
-    outcome(out, o)?;
-    end_hash(out, hash(cells))
-}
-
-fn profile<W: Write>(out: &mut W, s: Sequence, c: Call) -> io::Result<Turn> {
-    let fill = c.fill;
-    let x = c.x as usize;
-    let mut cells = [fill; 65536];
-    profile_in(out, s, &mut cells[0..x])?;
-    kept(true, out, s)
-}
-
-// A call with a payload says whether the script has all of it.
-fn verify_in<R: Read, W: Write>(
-    reader: &mut R,
-    out: &mut W,
-    query: &mut [u8],
-    a: &mut [u8],
-    b: &mut [u8],
-    l: u32,
-) -> io::Result<bool> {
-    if is_cut(reader, query)? {
-        return Ok(false);
-    }
-    if is_cut(reader, a)? {
-        return Ok(false);
-    }
-    if is_cut(reader, b)? {
-        return Ok(false);
-    }
-    let v = candidate::verify(query, a, b, l);
-    printing::text(out, b"verify ")?;
-    match v {
-        Verdict::Yes => printing::text(out, b"yes")?,
-        Verdict::No(i) => {
-            printing::text(out, b"no ")?;
-            printing::number(out, i as u64)?;
-        }
-        Verdict::Refused(r) => printing::refused(out, r)?,
-    }
-    printing::text(out, b"\n")?;
-    Ok(true)
-}
-
-fn verify<R: Read, W: Write>(reader: &mut R, out: &mut W, c: Call) -> io::Result<bool> {
-    let x = c.x as usize;
-    let y = c.y as usize;
-    let z = c.z as usize;
-    let mut query = [0u8; 65536];
-    let mut a = [0u8; 65536];
-    let mut b = [0u8; 65536];
-    verify_in(
-        reader,
-        out,
-        &mut query[0..x],
-        &mut a[0..y],
-        &mut b[0..z],
-        c.number,
-    )
-}
-
-fn generate_in<R: Read, W: Write>(
-    reader: &mut R,
-    out: &mut W,
-    c: Call,
-    a: &mut [u8],
-    b: &mut [u8],
-    cells: &mut [u8],
-) -> io::Result<bool> {
-    if is_cut(reader, a)? {
-        return Ok(false);
-    }
-    if is_cut(reader, b)? {
-        return Ok(false);
-    }
-    let o = candidate::generate(c.number, a, b, c.l as u32, cells);
-    printing::text(out, b"generate ")?;
-    outcome(out, o)?;
-    end_hash(out, hash(cells))?;
-    Ok(true)
-}
-
-fn generate<R: Read, W: Write>(reader: &mut R, out: &mut W, c: Call) -> io::Result<bool> {
-    let fill = c.fill;
-    let x = c.x as usize;
-    let y = c.y as usize;
-    let z = c.z as usize;
-    let mut a = [0u8; 65536];
-    let mut b = [0u8; 65536];
-    let mut cells = [fill; 65536];
-    generate_in(reader, out, c, &mut a[0..x], &mut b[0..y], &mut cells[0..z])
-}
-
-fn synthesize_in<R: Read, W: Write>(
-    reader: &mut R,
-    out: &mut W,
-    query: &mut [u8],
-    entry: &mut [u8],
-) -> io::Result<bool> {
-    if is_cut(reader, query)? {
-        return Ok(false);
-    }
-    let o = catalogue::synthesize(query, entry);
-    printing::text(out, b"synthesize ")?;
-    outcome(out, o)?;
-    end_hash(out, hash(entry))?;
-    Ok(true)
-}
-
-fn synthesize<R: Read, W: Write>(reader: &mut R, out: &mut W, c: Call) -> io::Result<bool> {
-    let fill = c.fill;
-    let x = c.x as usize;
-    let y = c.y as usize;
-    let mut query = [0u8; 65536];
-    let mut entry = [fill; 65536];
-    synthesize_in(reader, out, &mut query[0..x], &mut entry[0..y])
-}
-
-fn look_up_in<R: Read, W: Write>(
-    reader: &mut R,
-    out: &mut W,
-    query: &mut [u8],
-    records: &mut [u8],
-    who: u32,
-    entry: &mut [u8],
-) -> io::Result<bool> {
-    if is_cut(reader, query)? {
-        return Ok(false);
-    }
-    if is_cut(reader, records)? {
-        return Ok(false);
-    }
-    let u = catalogue::look_up(query, records, who as u64, entry);
-    printing::text(out, b"look_up ")?;
-    match u {
-        LookedUp::Found(i) => {
-            printing::text(out, b"found ")?;
-            printing::number(out, i as u64)?;
-        }
-        LookedUp::Made => printing::text(out, b"made")?,
-        LookedUp::Refused(r) => printing::refused(out, r)?,
-    }
-    end_hash(out, hash(entry))?;
-    Ok(true)
-}
-
-fn look_up<R: Read, W: Write>(reader: &mut R, out: &mut W, c: Call) -> io::Result<bool> {
-    let fill = c.fill;
-    let x = c.x as usize;
-    let y = c.y as usize;
-    let z = c.z as usize;
-    let mut query = [0u8; 65536];
-    let mut records = [0u8; 65536];
-    let mut entry = [fill; 65536];
-    look_up_in(
-        reader,
-        out,
-        &mut query[0..x],
-        &mut records[0..y],
-        c.number,
-        &mut entry[0..z],
-    )
-}
-
-// A sheet is not lent: its records are those of the log, and the room only counts them.
-fn trace_in<W: Write>(
-    out: &mut W,
-    s: Sequence,
-    a: &mut [u8],
-    b: &mut [u8],
-    room: u32,
-) -> io::Result<()> {
-    let mut log = [0u64; LOG];
-    let w = sequence::work(s, a, b, room as usize, &mut log);
-    printing::text(out, b"trace ")?;
-    let r = w.reply;
-    reported(out, r)?;
-    print_hash(out, hash(a))?;
-    print_hash(out, hash(b))?;
-    end_hash(out, hash_log(&log, w.count))
-}
-
-fn trace<W: Write>(out: &mut W, s: Sequence, c: Call) -> io::Result<Turn> {
-    let fill = c.fill;
-    let x = c.x as usize;
-    let y = c.y as usize;
-    let mut a = [fill; 65536];
-    let mut b = [fill; 65536];
-    trace_in(out, s, &mut a[0..x], &mut b[0..y], c.number)?;
-    kept(true, out, s)
-}
-
-fn read_line_in<R: Read, W: Write>(
-    reader: &mut R,
-    out: &mut W,
-    line: &mut [u8],
-    query: &mut [u8],
-) -> io::Result<bool> {
-    if is_cut(reader, line)? {
-        return Ok(false);
-    }
-    let o = lines::read_line(line, query);
-    printing::text(out, b"read_line ")?;
-    outcome(out, o)?;
-    end_hash(out, hash(query))?;
-    Ok(true)
-}
-
-fn read_line<R: Read, W: Write>(reader: &mut R, out: &mut W, c: Call) -> io::Result<bool> {
-    let fill = c.fill;
-    let x = c.x as usize;
-    let y = c.y as usize;
-    let mut line = [0u8; 65536];
-    let mut query = [fill; 65536];
-    read_line_in(reader, out, &mut line[0..x], &mut query[0..y])
-}
-
-fn merge_in<R: Read, W: Write>(
-    reader: &mut R,
-    out: &mut W,
-    first: &mut [u8],
-    second: &mut [u8],
-    query: &mut [u8],
-) -> io::Result<bool> {
-    if is_cut(reader, first)? {
-        return Ok(false);
-    }
-    if is_cut(reader, second)? {
-        return Ok(false);
-    }
-    let o = merge::merge(first, second, query);
-    printing::text(out, b"merge ")?;
-    outcome(out, o)?;
-    end_hash(out, hash(query))?;
-    Ok(true)
-}
-
-fn merge<R: Read, W: Write>(reader: &mut R, out: &mut W, c: Call) -> io::Result<bool> {
-    let fill = c.fill;
-    let x = c.x as usize;
-    let y = c.y as usize;
-    let z = c.z as usize;
-    let mut first = [0u8; 65536];
-    let mut second = [0u8; 65536];
-    let mut query = [fill; 65536];
-    merge_in(
-        reader,
-        out,
-        &mut first[0..x],
-        &mut second[0..y],
-        &mut query[0..z],
-    )
-}
-
-fn period_length_in<R: Read, W: Write>(
-    reader: &mut R,
-    out: &mut W,
-    cells: &mut [u8],
-) -> io::Result<bool> {
-    if is_cut(reader, cells)? {
-        return Ok(false);
-    }
-    let m = period::period_length(cells);
-    printing::text(out, b"period_length ")?;
-    match m {
-        Measured::Length(l) => {
-            printing::text(out, b"length ")?;
-            printing::number(out, l as u64)?;
-        }
-        Measured::Refused(r) => printing::refused(out, r)?,
-    }
-    end_hash(out, hash(cells))?;
-    Ok(true)
-}
-
-fn period_length<R: Read, W: Write>(reader: &mut R, out: &mut W, c: Call) -> io::Result<bool> {
-    let x = c.x as usize;
-    let mut cells = [0u8; 65536];
-    period_length_in(reader, out, &mut cells[0..x])
-}
-
-// The payload of an enumeration and of a tally is of one size, whatever the buffer's is.
-fn enumerate_in<R: Read, W: Write>(
-    reader: &mut R,
-    out: &mut W,
-    modulus: u32,
-    query: &mut [u8],
-) -> io::Result<bool> {
-    let mut payload = [0u8; 12];
-    if is_cut(reader, &mut payload)? {
-        return Ok(false);
-    }
-    let n = parse_numbered(&payload);
-    let o = enumeration::enumerate(modulus, n.count, n.number, query);
-    printing::text(out, b"enumerate ")?;
-    outcome(out, o)?;
-    end_hash(out, hash(query))?;
-    Ok(true)
-}
-
-fn enumerate<R: Read, W: Write>(reader: &mut R, out: &mut W, c: Call) -> io::Result<bool> {
-    let fill = c.fill;
-    let x = c.x as usize;
-    let mut query = [fill; 65536];
-    enumerate_in(reader, out, c.number, &mut query[0..x])
-}
-
-fn tally_in<R: Read, W: Write>(
-    reader: &mut R,
-    out: &mut W,
-    modulus: u32,
-    cells: &mut [u8],
-) -> io::Result<bool> {
-    let mut payload = [0u8; 4];
-    if is_cut(reader, &mut payload)? {
-        return Ok(false);
-    }
-    let o = enumeration::tally(modulus, parse_count(&payload), cells);
-    printing::text(out, b"tally ")?;
-    outcome(out, o)?;
-    end_hash(out, hash(cells))?;
-    Ok(true)
-}
-
-fn tally<R: Read, W: Write>(reader: &mut R, out: &mut W, c: Call) -> io::Result<bool> {
-    let fill = c.fill;
-    let x = c.x as usize;
-    let mut cells = [fill; 65536];
-    tally_in(reader, out, c.number, &mut cells[0..x])
-}
-
-// A number with the fill byte in each of its eight bytes, lent for a reply.
-fn filled(fill: u8) -> u64 {
-    72340172838076673 * (fill as u64)
-}
-
-// A number's eight bytes more.
-fn mixed_long(h: u32, v: u64) -> u32 {
-    mixed_pair(h, (v % 4294967296) as u32, (v / 4294967296) as u32)
-}
-
 // The hash of the bytes of numbers, eight for each.
 fn hash_numbers(numbers: &[u64]) -> u32 {
-    let mut h = START;
-    for number in numbers {
-        h = mixed_long(h, *number);
-    }
-    h
+    numbers
+        .iter()
+        .fold(START, |h, n| mixed(h, &n.to_le_bytes()))
 }
 
-fn print_counts<W: Write>(
-    out: &mut W,
-    found: usize,
-    made: usize,
-    refused: usize,
-) -> io::Result<()> {
-    printing::text(out, b"found ")?;
-    printing::number(out, found as u64)?;
-    printing::text(out, b" made ")?;
-    printing::number(out, made as u64)?;
-    printing::text(out, b" refused ")?;
-    printing::number(out, refused as u64)
+// Reader, writer and the sequence that is held.
+#[derive(Drop)]
+struct Replay<R, W> {
+    reader: R,
+    out: W,
+    sequence: Sequence,
 }
 
-fn look_up_batch_in<R: Read, W: Write>(
-    reader: &mut R,
-    out: &mut W,
-    queries: &mut [u8],
-    records: &mut [u8],
-    who: u32,
-    entries: &mut [u8],
-    replies: &mut [u64],
-) -> io::Result<bool> {
-    if is_cut(reader, queries)? {
-        return Ok(false);
-    }
-    if is_cut(reader, records)? {
-        return Ok(false);
-    }
-    let b = batch::look_up_batch(queries, records, who as u64, entries, replies);
-    printing::text(out, b"look_up_batch ")?;
-    let o = b.outcome;
-    match o {
-        Outcome::Done => print_counts(out, b.found, b.made, b.refused)?,
-        Outcome::Refused(r) => printing::refused(out, r)?,
-    }
-    print_hash(out, hash(entries))?;
-    end_hash(out, hash_numbers(replies))?;
-    Ok(true)
-}
-
-// The replies are counted in numbers where a run has its length.
-fn look_up_batch<R: Read, W: Write>(reader: &mut R, out: &mut W, c: Call) -> io::Result<bool> {
-    let fill = c.fill;
-    let x = c.x as usize;
-    let y = c.y as usize;
-    let z = c.z as usize;
-    let l = c.l as usize;
-    let mut queries = [0u8; 65536];
-    let mut records = [0u8; 65536];
-    let mut entries = [fill; 65536];
-    let number = filled(fill);
-    let mut replies = [number; 65536];
-    look_up_batch_in(
-        reader,
-        out,
-        &mut queries[0..x],
-        &mut records[0..y],
-        c.number,
-        &mut entries[0..z],
-        &mut replies[0..l],
-    )
-}
-
-fn forge<R: Read, W: Write>(reader: &mut R, out: &mut W, s: Sequence, c: Call) -> io::Result<Turn> {
-    if c.x as usize != QUERY_BYTES {
-        printing::text(out, b"script bad forge\n")?;
-        return Ok(stopped(s));
-    }
-    let mut query = [0u8; QUERY_BYTES];
-    if is_cut(reader, &mut query)? {
-        return kept(false, out, s);
-    }
-    printing::text(out, b"forge ok")?;
-    let q = sequence::check(&query);
-    held(out, q.sequence)
-}
-
-fn unknown<W: Write>(out: &mut W, s: Sequence, operation: u8) -> io::Result<Turn> {
-    printing::text(out, b"script unknown ")?;
-    printing::number(out, operation as u64)?;
-    printing::text(out, b"\n")?;
-    Ok(stopped(s))
-}
-
-fn act<R: Read, W: Write>(reader: &mut R, out: &mut W, s: Sequence, c: Call) -> io::Result<Turn> {
-    let operation = c.operation;
-    match operation {
-        0 => open(out, c.number),
-        1 => push(out, s, c.number),
-        2 => register(out, s, c),
-        3 => profile(out, s, c),
-        4 => kept(verify(reader, out, c)?, out, s),
-        5 => kept(generate(reader, out, c)?, out, s),
-        6 => kept(synthesize(reader, out, c)?, out, s),
-        7 => kept(look_up(reader, out, c)?, out, s),
-        8 => forge(reader, out, s, c),
-        9 => trace(out, s, c),
-        10 => kept(read_line(reader, out, c)?, out, s),
-        11 => push_all(reader, out, s, c),
-        12 => kept(merge(reader, out, c)?, out, s),
-        13 => kept(period_length(reader, out, c)?, out, s),
-        14 => kept(enumerate(reader, out, c)?, out, s),
-        15 => kept(tally(reader, out, c)?, out, s),
-        16 => kept(look_up_batch(reader, out, c)?, out, s),
-        _ => unknown(out, s, operation),
-    }
-}
-
-// Makes the next call of the script.
-fn next<R: Read, W: Write>(reader: &mut R, out: &mut W, s: Sequence) -> io::Result<Turn> {
-    let mut h = [0u8; 16];
-    let n = input::read_full(reader, &mut h)?;
-    if n == 0 {
-        return Ok(stopped(s));
-    }
-    if n < 16 {
-        return kept(false, out, s);
-    }
-    act(reader, out, s, parse(&h))
-}
-
-// Makes the calls of the script in turn.
-fn replay<R: Read, W: Write>(reader: &mut R, out: &mut W) -> io::Result<()> {
-    // Refused, so the sequence is the one of zeros.
-    let o = sequence::open(0);
-    let mut s = o.sequence;
-    for _ in 0..u64::MAX {
-        let t = next(reader, out, s)?;
-        if !t.going {
-            break;
+impl<R: Read, W: Write> Replay<R, W> {
+    // Fills a buffer from the script.
+    fn read(&mut self, buffer: &mut [u8]) -> Result<(), Stop> {
+        if input::read_full(&mut self.reader, buffer)? < buffer.len() {
+            return Err(Stop::CutShort);
         }
-        s = t.sequence;
+        Ok(())
     }
-    Ok(())
+
+    // The next bytes of the script, as many as the array has.
+    fn read_array<const N: usize>(&mut self) -> Result<[u8; N], Stop> {
+        let mut bytes = [0u8; N];
+        self.read(&mut bytes)?;
+        Ok(bytes)
+    }
+
+    // The bytes that a call is handed.
+    fn handed<'a>(&mut self, room: &'a mut [u8; ROOM], length: u16) -> Result<&'a [u8], Stop> {
+        let part = &mut room[..usize::from(length)];
+        self.read(part)?;
+        Ok(part)
+    }
+
+    // Writes the line of a call: what stands before the reply, the reply, and hashes.
+    fn line<T: Reply>(
+        &mut self,
+        before: &[u8],
+        reply: Result<T, Refusal>,
+        hashes: &[u32],
+    ) -> Result<(), Stop> {
+        printing::text(&mut self.out, before)?;
+        match reply {
+            Ok(given) => given.print(&mut self.out)?,
+            Err(r) => printing::refused(&mut self.out, r)?,
+        }
+        for h in hashes {
+            write!(self.out, " {h:08x}")?;
+        }
+        printing::text(&mut self.out, b"\n")?;
+        Ok(())
+    }
+
+    // Writes the line of a call that may change the sequence.
+    fn held(&mut self, before: &[u8], outcome: Result<(), Refusal>) -> Result<(), Stop> {
+        let h = hash_sequence(&self.sequence);
+        self.line(before, outcome, &[h])
+    }
+
+    fn open(&mut self, modulus: u32) -> Result<(), Stop> {
+        let o = Sequence::open(modulus);
+        self.sequence = o.sequence;
+        self.held(b"open ", o.outcome)
+    }
+
+    fn push(&mut self, term: u32) -> Result<(), Stop> {
+        let r = self.sequence.push(term);
+        self.held(b"push ", r)
+    }
+
+    fn register(&mut self, c: Call) -> Result<(), Stop> {
+        let mut a = [0u8; ROOM];
+        let mut b = [0u8; ROOM];
+        let a = filled(&mut a, c.x, c.fill);
+        let b = filled(&mut b, c.y, c.fill);
+        let r = self.sequence.register(a, b);
+        self.line(b"register ", r, &[hash(a), hash(b)])
+    }
+
+    fn profile(&mut self, c: Call) -> Result<(), Stop> {
+        let mut cells = [0u8; ROOM];
+        let cells = filled(&mut cells, c.x, c.fill);
+        let r = self.sequence.profile(cells);
+        self.line(b"profile ", r, &[hash(cells)])
+    }
+
+    fn verify(&mut self, c: Call) -> Result<(), Stop> {
+        let mut query = [0u8; ROOM];
+        let mut a = [0u8; ROOM];
+        let mut b = [0u8; ROOM];
+        let query = self.handed(&mut query, c.x)?;
+        let a = self.handed(&mut a, c.y)?;
+        let b = self.handed(&mut b, c.z)?;
+        let r = candidate::verify(query, a, b, c.number);
+        self.line(b"verify ", r.map(Verdict), &[])
+    }
+
+    fn generate(&mut self, c: Call) -> Result<(), Stop> {
+        let mut a = [0u8; ROOM];
+        let mut b = [0u8; ROOM];
+        let mut cells = [0u8; ROOM];
+        let cells = filled(&mut cells, c.z, c.fill);
+        let a = self.handed(&mut a, c.x)?;
+        let b = self.handed(&mut b, c.y)?;
+        let r = candidate::generate(c.number, a, b, u32::from(c.l), cells);
+        self.line(b"generate ", r, &[hash(cells)])
+    }
+
+    fn synthesize(&mut self, c: Call) -> Result<(), Stop> {
+        let mut query = [0u8; ROOM];
+        let mut entry = [0u8; ROOM];
+        let entry = filled(&mut entry, c.y, c.fill);
+        let query = self.handed(&mut query, c.x)?;
+        let r = catalogue::synthesize(query, entry);
+        self.line(b"synthesize ", r, &[hash(entry)])
+    }
+
+    fn look_up(&mut self, c: Call) -> Result<(), Stop> {
+        let mut query = [0u8; ROOM];
+        let mut records = [0u8; ROOM];
+        let mut entry = [0u8; ROOM];
+        let entry = filled(&mut entry, c.z, c.fill);
+        let query = self.handed(&mut query, c.x)?;
+        let records = self.handed(&mut records, c.y)?;
+        let r = catalogue::look_up(query, records, u64::from(c.number), entry);
+        self.line(b"look_up ", r.map(Place), &[hash(entry)])
+    }
+
+    // Holds whatever sequence the script writes down.
+    fn forge(&mut self, c: Call) -> Result<(), Stop> {
+        if usize::from(c.x) != QUERY_BYTES {
+            return Err(Stop::BadForge);
+        }
+        let query = self.read_array::<QUERY_BYTES>()?;
+        self.sequence = sequence::loaded(&query);
+        self.held(b"forge ", Ok(()))
+    }
+
+    // A sheet is not lent: its records are those of the log, and the room only counts them.
+    fn trace(&mut self, c: Call) -> Result<(), Stop> {
+        let mut a = [0u8; ROOM];
+        let mut b = [0u8; ROOM];
+        let mut log = [0u64; LOG];
+        let a = filled(&mut a, c.x, c.fill);
+        let b = filled(&mut b, c.y, c.fill);
+        let r = self.sequence.work(a, b, c.number as usize, &mut log);
+        let records = match r {
+            Ok(w) => hash_log(&log, w.count),
+            Err(_) => START,
+        };
+        self.line(b"trace ", r.map(|w| w.report), &[hash(a), hash(b), records])
+    }
+
+    fn read_line(&mut self, c: Call) -> Result<(), Stop> {
+        let mut line = [0u8; ROOM];
+        let mut query = [0u8; ROOM];
+        let query = filled(&mut query, c.y, c.fill);
+        let line = self.handed(&mut line, c.x)?;
+        let r = lines::read_line(line, query);
+        self.line(b"read_line ", r, &[hash(query)])
+    }
+
+    fn push_all(&mut self, c: Call) -> Result<(), Stop> {
+        let mut list = [0u8; ROOM];
+        let list = self.handed(&mut list, c.x)?;
+        let p = column::push_all(self.sequence, list);
+        self.sequence = p.sequence;
+        printing::text(&mut self.out, b"push_all taken ")?;
+        printing::number(&mut self.out, p.taken as u64)?;
+        self.line(b" ", p.outcome, &[hash_sequence(&p.sequence), hash(list)])
+    }
+
+    fn merge(&mut self, c: Call) -> Result<(), Stop> {
+        let mut first = [0u8; ROOM];
+        let mut second = [0u8; ROOM];
+        let mut query = [0u8; ROOM];
+        let query = filled(&mut query, c.z, c.fill);
+        let first = self.handed(&mut first, c.x)?;
+        let second = self.handed(&mut second, c.y)?;
+        let r = merge::merge(first, second, query);
+        self.line(b"merge ", r, &[hash(query)])
+    }
+
+    fn period_length(&mut self, c: Call) -> Result<(), Stop> {
+        let mut cells = [0u8; ROOM];
+        let cells = self.handed(&mut cells, c.x)?;
+        let r = period::period_length(cells);
+        self.line(b"period_length ", r, &[hash(cells)])
+    }
+
+    fn enumerate(&mut self, c: Call) -> Result<(), Stop> {
+        let mut query = [0u8; ROOM];
+        let query = filled(&mut query, c.x, c.fill);
+        let count = u32::from_le_bytes(self.read_array()?);
+        let number = u64::from_le_bytes(self.read_array()?);
+        let r = enumeration::enumerate(c.number, count, number, query);
+        self.line(b"enumerate ", r, &[hash(query)])
+    }
+
+    fn tally(&mut self, c: Call) -> Result<(), Stop> {
+        let mut cells = [0u8; ROOM];
+        let cells = filled(&mut cells, c.x, c.fill);
+        let count = u32::from_le_bytes(self.read_array()?);
+        let r = enumeration::tally(c.number, count, cells);
+        self.line(b"tally ", r, &[hash(cells)])
+    }
+
+    // The replies are counted in numbers where a run has its length, and each byte of one is filled.
+    fn look_up_batch(&mut self, c: Call) -> Result<(), Stop> {
+        let mut queries = [0u8; ROOM];
+        let mut records = [0u8; ROOM];
+        let mut entries = [0u8; ROOM];
+        let mut replies = [0u64; ROOM];
+        let entries = filled(&mut entries, c.z, c.fill);
+        let replies = &mut replies[..usize::from(c.l)];
+        replies.fill(u64::from_le_bytes([c.fill; 8]));
+        let queries = self.handed(&mut queries, c.x)?;
+        let records = self.handed(&mut records, c.y)?;
+        let r = batch::look_up_batch(queries, records, u64::from(c.number), entries, replies);
+        self.line(
+            b"look_up_batch ",
+            r,
+            &[hash(entries), hash_numbers(replies)],
+        )
+    }
+
+    fn make(&mut self, c: Call) -> Result<(), Stop> {
+        match c.operation {
+            Operation::Open => self.open(c.number),
+            Operation::Push => self.push(c.number),
+            Operation::Register => self.register(c),
+            Operation::Profile => self.profile(c),
+            Operation::Verify => self.verify(c),
+            Operation::Generate => self.generate(c),
+            Operation::Synthesize => self.synthesize(c),
+            Operation::LookUp => self.look_up(c),
+            Operation::Forge => self.forge(c),
+            Operation::Trace => self.trace(c),
+            Operation::ReadLine => self.read_line(c),
+            Operation::PushAll => self.push_all(c),
+            Operation::Merge => self.merge(c),
+            Operation::PeriodLength => self.period_length(c),
+            Operation::Enumerate => self.enumerate(c),
+            Operation::Tally => self.tally(c),
+            Operation::LookUpBatch => self.look_up_batch(c),
+        }
+    }
+
+    // Reads the next call of the script and makes it.
+    fn next(&mut self) -> Result<(), Stop> {
+        let mut header = [0u8; 16];
+        let n = input::read_full(&mut self.reader, &mut header)?;
+        if n == 0 {
+            return Err(Stop::Ended);
+        }
+        if n < header.len() {
+            return Err(Stop::CutShort);
+        }
+        self.make(Call::try_from(header)?)
+    }
+
+    // Tells why the calls stop.
+    fn end(&mut self, stop: Stop) -> io::Result<()> {
+        match stop {
+            Stop::Ended => Ok(()),
+            Stop::CutShort => printing::text(&mut self.out, b"script cut short\n"),
+            Stop::BadForge => printing::text(&mut self.out, b"script bad forge\n"),
+            Stop::Unknown(number) => {
+                printing::text(&mut self.out, b"script unknown ")?;
+                printing::number(&mut self.out, u64::from(number))?;
+                printing::text(&mut self.out, b"\n")
+            }
+            Stop::Failed(e) => Err(e),
+        }
+    }
+
+    // Makes the calls of the script in turn.
+    fn run(&mut self) -> io::Result<()> {
+        for _call in 0..u64::MAX {
+            if let Err(stop) = self.next() {
+                return self.end(stop);
+            }
+        }
+        Ok(())
+    }
 }
 
 fn main(rt: HostRuntime) -> io::Result<()> {
-    replay(&mut rt.stdin(), &mut rt.stdout())
+    // Refused, so the sequence is the one of zeros.
+    let sequence = Sequence::open(0).sequence;
+    let mut replay = Replay {
+        reader: rt.stdin(),
+        out: rt.stdout(),
+        sequence,
+    };
+    replay.run()
 }
