@@ -5,7 +5,6 @@ ghost use Rattle.std.specs.Prelude.{◌≡◌, ℕ, ◌+◌, ◌*◌, ◌/◌, �
 ghost use Rattle.lists.specs.Table.{at};
 ghost use Rattle.residue.specs.Reduction.{two48};
 ghost use Rattle.cells.specs.Cell.{cells_from, bytes_of};
-ghost use Rattle.recurrence.specs.Polynomial.{conv};
 ghost use Rattle.recurrence.specs.Running.{cell, generated, first_difference};
 ghost use Rattle.sequence.specs.Limits.{max_terms, a_bytes, b_bytes};
 ghost use Rattle.sequence.specs.Answers.{outcome_answer};
@@ -88,30 +87,31 @@ fn product(x: u32, y: u32) -> u64
     u64::from(x) * u64::from(y)
 }
 
-// Coefficient j of the product of the terms and a, not reduced.
-fn coefficient(terms: &[u32; TERMS], a: &[u8], j: usize) -> u64
-    requires { (j < max_terms) × (length terms.now ≡ max_terms) × (length a.now ≡ a_bytes) }
-    ensures { result ≡ conv (at terms.now) (at (a_cells a.now)) j }
-{
-    let mut sum = 0;
-    for i in 0..j + 1 {
-        sum += product(cells::cell(a, i), terms[j - i]);
-    }
-    sum
-}
-
 // The first of n places where the product of the terms and a differs from b modulo m; n where there is none, as the definition and the clause
-// say. One division for each sum.
+// say. One division for each sum. The labelled loops stay: docs/DECISIONS.md, Forms, names them (a loop gives its break's value, a `for` none).
 fn first_difference(terms: &[u32; TERMS], a: &[u8], b: &[u8], n: usize, m: u32) -> usize
     requires { (n ≤ max_terms) × (0 < m) × (m < 65536) × (length terms.now ≡ max_terms) × (length a.now ≡ a_bytes) × (length b.now ≡ b_bytes) }
     ensures { result ≡ first_difference m terms.now (a_cells a.now) (b_cells b.now) n }
 {
-    for j in 0..n {
-        if residue::remainder(coefficient(terms, a, j), m) != cells::cell(b, j) {
-            return j;
+    let mut j: usize = 0;
+    'places: loop {
+        if n <= j {
+            break n;
         }
+        let mut sum: u64 = 0;
+        let mut i: usize = 0;
+        loop {
+            if j < i {
+                if residue::remainder(sum, m) == cells::cell(b, j) {
+                    break;
+                }
+                break 'places j;
+            }
+            sum += product(cells::cell(a, i), terms[j - i]);
+            i += 1;
+        }
+        j += 1;
     }
-    n
 }
 
 // The test of a candidate against a sound sequence: the first place where the product and b differ, or none.

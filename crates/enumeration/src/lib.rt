@@ -56,7 +56,7 @@ fn digits(m: u32, n: usize, number: u32) -> [u32; TERMS]
     let mut terms = [0u32; TERMS];
     let mut left = number;
     for i in (0..n).rev() {
-        terms[i] = left % m;
+        terms[i] = residue::remainder(u64::from(left), m);
         left /= m;
     }
     terms

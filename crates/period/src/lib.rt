@@ -59,7 +59,7 @@ fn add_halves(digits: &mut [u32; MAX_PERIOD], h: usize)
         × ((j : ℕ) → j < h → at digits.new j ≡ (at digits.old j + at digits.old (h + j)) % 2) }
 {
     for j in 0..h {
-        digits[j] = (digits[j] + digits[h + j]) % 2;
+        digits[j] = residue::remainder(u64::from(digits[j] + digits[h + j]), 2);
     }
 }
 

@@ -45,8 +45,8 @@ pub struct StepRecord {
     pub case: u32,
 }
 
-// The rows before a step: the a of each, and its length. Arrays side by side, here and below, and not an array of rows: a step changes a
-// of one row while it reads what others remember, and hands a row's cells on as they stand.
+// The rows before a step: the a of each, and its length. Arrays side by side and not an array of rows: a step lends one row's a to be
+// changed while it reads the lengths of all.
 #[derive(Drop)]
 pub struct Rows {
     pub a: [[u32; CELLS]; ROWS],
@@ -190,9 +190,9 @@ impl Rows {
         if u < e {
             let g = e - 1 - u;
             if self.length[g] == 0 {
-                return Told { g: g, case: 2 };
+                return Told { g, case: 2 };
             }
-            return Told { g: g, case: 3 };
+            return Told { g, case: 3 };
         }
         Told { g: e, case: 1 }
     }

@@ -19,9 +19,9 @@ impl Ring {
         ensures { (result.p ≡ p) × (result.e ≡ e) × (result.q ≡ q) }
     {
         Ring {
-            p: p,
-            e: e,
-            q: q,
+            p,
+            e,
+            q,
             scale: residue::scale(q),
         }
     }

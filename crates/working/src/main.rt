@@ -2,8 +2,9 @@
 // the only one, then the records of its steps as a table; or its refusal alone.
 #![tactic(auto)]
 
-ghost use Rattle.std.specs.Prelude.{◌≤◌};
+ghost use Rattle.std.specs.Prelude.{◌≡◌, [], ◌∷◌, ◌≤◌};
 ghost use Rattle.steps.specs.Sizes.{log_words};
+ghost use Rattle.cells.specs.Cell.{equal};
 
 use input::Typed;
 use sequence::{A_BYTES, B_BYTES, QUERY_BYTES, Refusal, Sequence};
@@ -92,11 +93,17 @@ fn is_given<E: Env>(env: &E, place: usize) -> bool {
     !matches!(env.arg(place, &mut none), Err(FillError::NotPresent))
 }
 
+fn is_lines(word: &[u8]) -> bool
+    ensures { result ≡ equal word.now (108 ∷ 105 ∷ 110 ∷ 101 ∷ 115 ∷ []) }
+{
+    word == b"lines".as_slice()
+}
+
 // Whether the first argument is "lines"; one that does not fit here is not.
 fn wants_lines<E: Env>(env: &E) -> bool {
     let mut word = [0u8; 5];
     match env.arg(1, &mut word) {
-        Ok(n) => &word[..n] == b"lines".as_slice(),
+        Ok(n) => is_lines(&word[..n]),
         Err(_) => false,
     }
 }
