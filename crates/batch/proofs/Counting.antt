@@ -13,6 +13,7 @@ use Rattle.std.proofs.lemmas.List.Sums.{sum_by-cons}
 use Rattle.lists.specs.Sum.{sum_to}
 use Rattle.lists.specs.Table.{at}
 use Rattle.lists.proofs.Sum.{sum_to_eq, sum_to_head}
+use Rattle.sequence.specs.declared.Refusal.{Refusal}
 use Rattle.sequence.specs.Answers.{refusal}
 use Rattle.codes.specs.Codes.{code_of}
 use Rattle.codes.proofs.Laws.{code_refused}
@@ -22,20 +23,20 @@ use Rattle.catalogue.specs.Rules.{LookedUp}
 
 -- ---- what the code counts
 
+not_made : (r : Refusal) → code_of (refusal r) ≡ 0 → ⊥
+not_made r e = code_refused r (let z : code_of (refusal r) % 256 ≡ 0 = omega (arith, e) in z)
+
 -- the reply to a query says what it is
 found_said : (t : LookedUp) → cond (says_found (reply_code t)) 1 0 ≡ is_found t
 found_said (Ok None) = refl
 found_said (Ok (Some i)) = rw (ne_eqb (reply_code (Ok (Some i))) 0 (λ e. omega arith), eq-eqb (reply_code (Ok (Some i)) % 256) 0 (omega arith))
 found_said (Err r) =
-    rw (
-      ne_eqb (code_of (refusal r)) 0 (λ e. code_refused r (let z : code_of (refusal r) % 256 ≡ 0 = omega (arith, e) in z)),
-      ne_eqb (code_of (refusal r) % 256) 0 (code_refused r),
-    )
+    rw (ne_eqb (code_of (refusal r)) 0 (not_made r), ne_eqb (code_of (refusal r) % 256) 0 (code_refused r))
 
 made_said : (t : LookedUp) → cond (says_made (reply_code t)) 1 0 ≡ is_made t
 made_said (Ok None) = refl
 made_said (Ok (Some i)) = rw (ne_eqb (reply_code (Ok (Some i))) 0 (λ e. omega arith))
-made_said (Err r) = rw (ne_eqb (code_of (refusal r)) 0 (λ e. code_refused r (let z : code_of (refusal r) % 256 ≡ 0 = omega (arith, e) in z)))
+made_said (Err r) = rw (ne_eqb (code_of (refusal r)) 0 (not_made r))
 
 refused_said : (t : LookedUp) → cond (says_refused (reply_code t)) 1 0 ≡ is_refused t
 refused_said (Ok None) = refl

@@ -19,9 +19,6 @@ use Rattle.batch.specs.Inner.{slots, slot_of, Marked, offered_part, offered_code
 use Rattle.batch.proofs.Parts.{cut_query}
 use Rattle.batch.proofs.Holding.{kept, not_its}
 
-pub marked_none : (queries marks : List ℕ) → length marks ≡ slots → Marked queries marks 0
-marked_none queries marks e = record { places = e; marked = λ i h. absurd (omega arith) }
-
 -- one more mark: no other is lost
 pub marked_more :
     (queries marks : List ℕ) (i k : ℕ) → Marked queries marks i → k ≡ slot_of (take (i * query_bytes + query_bytes - i * query_bytes) (drop (i * query_bytes) queries))

@@ -1,6 +1,6 @@
 -- Loops over the queries that renew one part and one reply after the other: the first ones are as rules say, the others as they were.
 -- Assumes nothing.
-use mathlib.Core.Path.{◌≡◌, refl, sym, ap, ◌∙◌}
+use mathlib.Core.Path.{◌≡◌, sym, ap, ◌∙◌}
 use mathlib.Core.List.{List}
 use Prim.Native.Nat.{ℕ, ◌+◌, ◌-◌, ◌*◌, ◌≤◌, ◌<◌}
 use native.Mathlib.Nat.{le_refl}
@@ -16,7 +16,6 @@ use Rattle.sequence.specs.Rules.{check_of}
 use Rattle.catalogue.specs.Rules.{record_bytes, record_at}
 use Rattle.catalogue.proofs.Laws.{cut_record}
 use Rattle.batch.specs.Rules.{query_at, queries_in}
-use Rattle.batch.specs.Walk.{Standing}
 use Rattle.batch.specs.Inner.{offered_part, offered_code, settled_part, settled_code}
 use Rattle.batch.proofs.Parts.{put_here, put_before, put_after, put_long, cut_query}
 
@@ -40,18 +39,6 @@ abbrev put_part : List ℕ → ℕ → List ℕ → List ℕ
 put_part out i y = put_mid (i * record_bytes) (i * record_bytes + record_bytes - i * record_bytes) out y
 
 module _ {part : ℕ → List ℕ} {reply : ℕ → ℕ} {n : ℕ} {out₀ replies₀ : List ℕ} where
-  pub turn_none : length out₀ ≡ n * record_bytes → length replies₀ ≡ n → Turn part reply n out₀ replies₀ 0 out₀ replies₀
-  turn_none w m =
-      record {
-        within = omega arith;
-        wide = w;
-        many = m;
-        shown = λ k h. absurd (omega arith);
-        told = λ k h. absurd (omega arith);
-        parts = λ k h l. refl;
-        codes = λ k h. refl;
-      }
-
   turn_more :
       {i : ℕ} {out replies : List ℕ} (y : List ℕ) (v : ℕ) → Turn part reply n out₀ replies₀ i out replies → i < n → length y ≡ record_bytes → y ≡ part i → v ≡ reply i
       → Turn part reply n out₀ replies₀ (i + 1) (put_part out i y) (set replies i v)
@@ -83,16 +70,7 @@ module _ {part : ℕ → List ℕ} {reply : ℕ → ℕ} {n : ℕ} {out₀ repli
       heard k l (yes e) = ap (at (set replies i v)) e ∙ get_or-set_same replies i v 0 (omega (arith, t.many)) ∙ ev ∙ ap reply (sym e)
       heard k l (no f) = get_or-set_other replies i k v 0 f ∙ t.told k (omega arith)
 
-  pub turn_all : {i : ℕ} {out replies : List ℕ} → Turn part reply n out₀ replies₀ i out replies → length replies ≤ i → Standing n part reply out replies
-  turn_all t h =
-      record {
-        wide = t.wide;
-        many = t.many;
-        shown = λ k l. t.shown k (omega (arith, t.many));
-        told = λ k l. t.told k (omega (arith, t.many));
-      }
-
-  pub part_long : {i : ℕ} {out replies : List ℕ} → Turn part reply n out₀ replies₀ i out replies → i < length replies → length (part_cut out i) ≡ record_bytes
+  part_long : {i : ℕ} {out replies : List ℕ} → Turn part reply n out₀ replies₀ i out replies → i < length replies → length (part_cut out i) ≡ record_bytes
   part_long {i} {out} t h = mid_len (i * record_bytes) (i * record_bytes + record_bytes) out (omega (arith, t.wide, t.many)) ∙ omega arith
 
 -- one turn: part and reply of query i go over to what F and G make of them
