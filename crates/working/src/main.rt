@@ -96,7 +96,7 @@ fn is_given<E: Env>(env: &E, place: usize) -> bool {
 fn is_lines(word: &[u8]) -> bool
     ensures { result ≡ equal word.now (108 ∷ 105 ∷ 110 ∷ 101 ∷ 115 ∷ []) }
 {
-    word == b"lines".as_slice()
+    cells::same(word, b"lines")
 }
 
 // Whether the first argument is "lines"; one that does not fit here is not.
