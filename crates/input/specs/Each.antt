@@ -23,7 +23,8 @@ unread = record { from = 0; end = 0; «open» = true }
 
 -- At most n lines from a source of a chunk on, with the closure f: each is the next one, `Told` in a buffer with room for the longest, and is
 -- handed to the closure once, as the calls before left it. After true the next line follows; false, the end of the input and n lines end it
--- well, and a call or a read that fails with an error, which a call's is. Which bytes the reads gave is not said.
+-- well, and a call or a read that fails with an error, which a call's is. Which bytes the reads gave is not said,
+-- so that from `unread` each result is also one of no calls.
 pub data EachLine {F E : Type 0} (step : F → Typed → Result Bool E → F → Type 0) : ℕ → Source → List ℕ → F → Result (Unit {0}) E → Type 0 where
   answered :
       {n : ℕ} {s : Source} {chunk : List ℕ} {f : F} {r : Result (Unit {0}) E} (taken : Taken) (s' : Source) (chunk' buffer : List ℕ) (x : Typed) (f' : F)

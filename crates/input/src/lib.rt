@@ -225,8 +225,8 @@ fn typed_of<'a>(taken: Taken, line: &'a [u8]) -> Option<Typed<'a>>
 }
 
 // Hands each line that is typed to the closure as soon as it is read, until the closure says false or the input ends.
-// Rejected: bytes handed on that are no whole line, or too many for one; going on after false or after an error; a call's error kept back. Which bytes
-// the reads gave is not said, so neither that each line of the input is handed on, nor that it is once, nor that the end is told at the end alone.
+// The clause rejects nothing yet, since it names neither what the reads give nor the closure behind its last call: each result is also that of an
+// input that ends, or of a read that fails, before the first line. What `next_line` and `typed_of` hand on is in their own contracts.
 pub fn each_line<R: Read, F: FnMut(Typed<'_>) -> io::Result<bool>>(
     reader: &mut R,
     mut answer: F,
