@@ -22,8 +22,9 @@ abbrev pub unread : Source
 unread = record { from = 0; end = 0; «open» = true }
 
 -- At most n lines from a source of a chunk on, with the closure f: each is the next one, `Told` in a buffer with room for the longest, and is
--- handed to the closure once, as the calls before left it. After true the next line follows; false, the end of the input and n lines end it well, and a call or a read that fails with
--- an error, which a call's is.
+-- handed to the closure once, as the calls before left it. After true the next line follows; false, the end of the input and n lines end it
+-- well, and a call or a read that fails with an error, which a call's is. Which bytes the reads gave is not said,
+-- so that from `unread` each result is also one of no calls.
 pub data EachLine {F E : Type 0} (step : F → Typed → Result Bool E → F → Type 0) : ℕ → Source → List ℕ → F → Result (Unit {0}) E → Type 0 where
   answered :
       {n : ℕ} {s : Source} {chunk : List ℕ} {f : F} {r : Result (Unit {0}) E} (taken : Taken) (s' : Source) (chunk' buffer : List ℕ) (x : Typed) (f' : F)
@@ -48,8 +49,8 @@ pub record Block (size : ℕ) (before : Option (List ℕ)) (bytes : List ℕ) (a
   pub last : length bytes < size → IsAtEnd after
 
 -- At most n blocks of a reader of which `before` is still to come, with the closure f, where `size` bytes are read at once; `after` is to come
--- then. Each block is handed to the closure once, as the
--- calls before left it. The end of the input and n blocks end it well, and a call or a read that fails with an error, which a call's is.
+-- then. Each block is handed to the closure once, as the calls before left it. The end of the input and n blocks end it well, and a call or a
+-- read that fails with an error, which a call's is.
 pub data EachBlock {F E : Type 0} (step : F → Bor (List ℕ) → Result (Unit {0}) E → F → Type 0) (size : ℕ) : ℕ → Option (List ℕ) → F → Result (Unit {0}) E → Option (List ℕ) → Type 0 where
   block_answered :
       {n : ℕ} {before after : Option (List ℕ)} {f : F} {r : Result (Unit {0}) E} (block : Bor (List ℕ)) (between : Option (List ℕ)) (f' : F)

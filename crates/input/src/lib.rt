@@ -31,7 +31,8 @@ pub struct Source {
     pub open: bool,
 }
 
-// A line and its length, a line that is too long, or the end of the input.
+// A line and its length, a line that is too long, or the end of the input. This says where in the buffer a line is, for a caller who has the buffer;
+// `Typed` hands the line's bytes on to a closure, which the end of the input does not call.
 #[derive(Clone, Copy)]
 pub enum Taken {
     Line(usize),
@@ -156,7 +157,7 @@ fn taken_of(line: &[u8], held: usize, marked: bool) -> Taken
 }
 
 // The next line, at the start of `line`, which has LINE_ROOM places. A read that fails is passed on, and nothing else is an error: a line that
-// is at hand never is one. `line` then holds a beginning of the line.
+// is at hand never is one. `line` then holds a beginning of the line, and the source stands as it was.
 // Rejected: a line feed in a line; a byte lost that the chunk has at entry, of this line or of a later one; a byte skipped behind a line feed
 // that a read gave; the carriage return of an end mark kept; a line cut short in silence, or the end told, by a source that is still open.
 pub fn next_line<R: Read>(
@@ -169,15 +170,19 @@ pub fn next_line<R: Read>(
     ensures chunk_after { OnOk result (is_known source.old chunk.old ≡ true → rest_of source.new chunk.new ≡ left_of (rest_of source.old chunk.old)) }
     ensures within { IfOk result (λ t. within t (length line.new)) }
     ensures failed { OnErr result (CutOff source.old chunk.old line.new) }
+    ensures kept { OnErr result (source.new ≡ source.old) }
 {
+    let mut now = *source;
     let mut held: usize = 0;
     for _read in 0..u64::MAX {
-        let marked = source.take_piece(chunk, line, &mut held);
-        if marked || !source.open {
+        let marked = now.take_piece(chunk, line, &mut held);
+        if marked || !now.open {
+            *source = now;
             return Ok(taken_of(line, held, marked));
         }
-        source.refill(reader, chunk)?;
+        now.refill(reader, chunk)?;
     }
+    *source = now;
     Ok(Taken::TooLong)
 }
 
@@ -190,6 +195,7 @@ pub fn read_full<R: Read>(reader: &mut R, buffer: &mut [u8]) -> io::Result<usize
     ensures failed { OnErr result (StandsIn (R.remaining reader.old) (R.remaining reader.new) buffer.new) }
 {
     let mut done: usize = 0;
+    // The count is the answer, and a read may give less than is asked, so that no `for` fits.
     while done < buffer.len() {
         let n = reader.read(&mut buffer[done..])?;
         if n == 0 {
@@ -200,7 +206,7 @@ pub fn read_full<R: Read>(reader: &mut R, buffer: &mut [u8]) -> io::Result<usize
     Ok(done)
 }
 
-// What was typed: a line, or one that is too long.
+// What was typed: the bytes of a line, or that it is too long.
 pub enum Typed<'a> {
     Line(&'a [u8]),
     TooLong,
@@ -219,7 +225,8 @@ fn typed_of<'a>(taken: Taken, line: &'a [u8]) -> Option<Typed<'a>>
 }
 
 // Hands each line that is typed to the closure as soon as it is read, until the closure says false or the input ends.
-// Rejected: a line passed over, or handed on twice; going on after false; the end told while lines are still to come.
+// The clause rejects nothing yet, since it names neither what the reads give nor the closure behind its last call: each result is also that of an
+// input that ends, or of a read that fails, before the first line. What `next_line` and `typed_of` hand on is in their own contracts.
 pub fn each_line<R: Read, F: FnMut(Typed<'_>) -> io::Result<bool>>(
     reader: &mut R,
     mut answer: F,
