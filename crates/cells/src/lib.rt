@@ -37,7 +37,10 @@ pub fn copy(from: &[u8], out: &mut [u8])
     requires { length from.now ≡ length out.old }
     ensures { out.new ≡ from.now }
 {
-    out.copy_from_slice(from);
+    // No `copy_from_slice`, with which an archive for C would need `memmove`.
+    for i in 0..from.len() {
+        out[i] = from[i];
+    }
 }
 
 // Whether two slices hold the same bytes.

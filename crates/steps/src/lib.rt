@@ -150,6 +150,15 @@ fn first_rows(a: &mut [[u32; CELLS]; ROWS], ring: Ring)
     }
 }
 
+// A row's a is put aside. Both lie in one machine, so that an assignment would be a `memmove`, which an archive for C would need from outside.
+fn put_aside(a: &[u32; CELLS], aside: &mut [u32; CELLS])
+    ensures { aside.new ≡ a.now }
+{
+    for i in 0..CELLS {
+        aside[i] = a[i];
+    }
+}
+
 impl Seen {
     // u and theta of each row's discrepancy at step k.
     fn look(&mut self, rows: &Rows, s: &[u32; TERMS], k: usize, ring: Ring)
@@ -246,7 +255,7 @@ impl Plan {
                 continue;
             }
             let g = ring.e - 1 - seen.u[i];
-            self.aside[i] = rows.a[g];
+            put_aside(&rows.a[g], &mut self.aside[i]);
         }
     }
 }
