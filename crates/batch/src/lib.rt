@@ -39,7 +39,7 @@ fn clear(out: &mut [u8])
 fn first_reply(query: &[u8]) -> u64
     ensures { result ≡ check_code query.now }
 {
-    match sequence::check(query) {
+    match sequence::accept(query) {
         Ok(_) => 0,
         Err(r) => codes::refused(r),
     }
@@ -182,7 +182,7 @@ fn settle(query: &[u8], part: &mut [u8], reply: u64) -> u64
     ensures value { result ≡ settled_code (check_of query.now) query.now part.old reply }
     ensures part_after { part.new ≡ settled_part (check_of query.now) query.now part.old reply }
 {
-    match sequence::check(query) {
+    match sequence::accept(query) {
         Ok(s) => conclude(query, &s, part, reply),
         Err(_) => reply,
     }

@@ -141,7 +141,7 @@ pub fn verify(query: &[u8], a: &[u8], b: &[u8], length: u32) -> Result<Option<u3
     if b.len() != sequence::B_BYTES {
         return Err(Refusal::Buffer);
     }
-    let s = sequence::check(query)?;
+    let s = sequence::accept(query)?;
     judge(&s, a, b, length)
 }
 
@@ -201,5 +201,5 @@ pub fn generate(
     }
     find_flaw(modulus, length, a, b)?;
     fill(modulus, a, b, length as usize, out, n);
-    Ok(())
+    return Ok(());
 }

@@ -66,7 +66,7 @@ pub fn synthesize(query: &[u8], out: &mut [u8]) -> Result<(), Refusal>
     if out.len() != RECORD_BYTES {
         return Err(Refusal::Buffer);
     }
-    let s = sequence::check(query)?;
+    let s = sequence::accept(query)?;
     write_record(query, &s, out);
     Ok(())
 }
@@ -80,7 +80,7 @@ pub fn word(s: &[u8]) -> u64
 }
 
 // Whether a record is one of the query: its first 260 bytes are the query's. Most records are told apart by the first four terms;
-// of the others it reads up to the first byte that differs.
+// the others are read up to the group of bytes with the first that differs.
 pub fn is_of(query: &[u8], entry: &[u8]) -> bool
     requires { (length query.now ≡ query_bytes) × (length entry.now ≡ record_bytes) }
     ensures { result ≡ is_of query.now entry.now }
@@ -119,7 +119,10 @@ pub fn is_good(s: &Sequence, entry: &[u8]) -> bool
         l,
     );
     match v {
-        Ok(place) => place.is_none(),
+        Ok(place) => match place {
+            None => true,
+            Some(_) => false,
+        },
         Err(_) => false,
     }
 }
@@ -208,6 +211,6 @@ pub fn look_up(
     if out.len() != RECORD_BYTES {
         return Err(Refusal::Buffer);
     }
-    let s = sequence::check(query)?;
+    let s = sequence::accept(query)?;
     fetch(query, &s, catalogue, who, out)
 }

@@ -123,8 +123,8 @@ fn merge_checked(first: &[u8], second: &[u8], query: &mut [u8]) -> Result<(), Re
     ensures value { result ≡ past_buffers first.now second.now }
     ensures query_after { query.new ≡ merged_in result first.now second.now query.old }
 {
-    let s = sequence::check(first)?;
-    let t = sequence::check(second)?;
+    let s = sequence::accept(first)?;
+    let t = sequence::accept(second)?;
     merge_sound(&s, &t, query)
 }
 

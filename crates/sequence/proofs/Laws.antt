@@ -19,12 +19,13 @@ use Rattle.lists.specs.Table.{at}
 use Rattle.lists.proofs.Table.{at_tabulate, at_past}
 use Rattle.lists.proofs.Search.{false_true, lt_or_le, first_passes, first_before, is_first, first_none, none_first, all_at, all_true}
 use Rattle.cells.specs.Cell.{cell_at}
+use Rattle.sequence.specs.declared.Checked.{Checked}
 use Rattle.sequence.specs.declared.Sequence.{Sequence}
 use Rattle.sequence.specs.declared.Refusal.{Refusal}
 use Rattle.sequence.specs.declared.Refusal.TheVariants as R
 use Rattle.sequence.specs.Limits.{max_modulus, max_terms, query_bytes}
 use Rattle.sequence.specs.Answers.{refusal, outcome_answer, Outcome, and_then}
-use Rattle.sequence.specs.Rules.{outside, first_large, zero_from, fault_of, is_sound, IsSound, fresh, open_of, longer, push_of, sequence_of, check_of, checked_of, Pushed}
+use Rattle.sequence.specs.Rules.{outside, first_large, zero_from, fault_of, is_sound, IsSound, fresh, open_of, longer, push_of, sequence_of, check_of, accepted_of, checked_of, Pushed}
 
 -- sequences are equal by their fields
 pub same : {m m' n n' : ℕ} {t t' : List ℕ} → m ≡ m' → n ≡ n' → t ≡ t' → ◌≡◌ {A = Sequence} (record { modulus = m; count = n; terms = t }) (record { modulus = m'; count = n'; terms = t' })
@@ -310,9 +311,14 @@ same_refusal h = cc
 pub refused_as : {A B : Type 0} {r r' : Refusal} → ◌≡◌ {A = Result A Refusal} (Err r) (Err r') → ◌≡◌ {A = Result B Refusal} (Err r) (Err r')
 refused_as h = ap Err (same_refusal h)
 
--- what `check` tells of a query that is refused
-pub checked_refused : (query : List ℕ) {r : Refusal} → Err r ≡ checked_of query → check_of query ≡ Err r
+-- what `check` tells of any query
+pub checked : (query : List ℕ) {x : Checked} → x ≡ checked_of query → x.outcome ≡ check_of query
 unfolding checked_of
+checked query e = ap (λ (y : Checked). y.outcome) e
+
+-- what `accept` tells of one that is refused
+pub checked_refused : (query : List ℕ) {r : Refusal} → Err r ≡ accepted_of query → check_of query ≡ Err r
+unfolding accepted_of
 checked_refused query {r} e = go (check_of query) refl e
   where
     go : (o : Outcome) → check_of query ≡ o → Err r ≡ and_then o (Ok (sequence_of query)) → check_of query ≡ Err r
@@ -326,8 +332,8 @@ pub record Accepted (query : List ℕ) (s : Sequence) : Type 0 where
   pub same : s ≡ sequence_of query
   pub sound : IsSound s
 
-pub accepted : (query : List ℕ) {s : Sequence} → Ok s ≡ checked_of query → Accepted query s
-unfolding checked_of
+pub accepted : (query : List ℕ) {s : Sequence} → Ok s ≡ accepted_of query → Accepted query s
+unfolding accepted_of
 accepted query {s} e = go (check_of query) refl e
   where
     go : (o : Outcome) → check_of query ≡ o → Ok s ≡ and_then o (Ok (sequence_of query)) → Accepted query s

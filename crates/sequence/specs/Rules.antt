@@ -9,6 +9,7 @@ use Rattle.sequence.specs.declared.Sequence.{Sequence}
 use Rattle.sequence.specs.declared.Refusal.{Refusal}
 use Rattle.sequence.specs.declared.Refusal.TheVariants as R
 use Rattle.sequence.specs.declared.Opened.{Opened}
+use Rattle.sequence.specs.declared.Checked.{Checked}
 use Rattle.sequence.specs.Limits.{max_modulus, max_terms, query_bytes}
 use Rattle.sequence.specs.Answers.{Answer, granted, refused, refused_at, first_of, Outcome, and_then}
 
@@ -91,13 +92,17 @@ sequence_of query = record { modulus = cell_at query 0; count = cell_at query 1;
 unfoldable pub check_of : List ℕ → Outcome
 check_of query = pick (eqb (length query) query_bytes) (fault_of (sequence_of query)) (Err R.Buffer)
 
--- the sequence of a query, or its refusal
-unfoldable pub checked_of : List ℕ → Result Sequence Refusal
-checked_of query = and_then (check_of query) (Ok (sequence_of query))
+-- the sequence of a query that has no refusal, or the refusal
+unfoldable pub accepted_of : List ℕ → Result Sequence Refusal
+accepted_of query = and_then (check_of query) (Ok (sequence_of query))
 
--- the same whatever is wrong with the query; one of another length writes none down: zeros
+-- the sequence that any query writes down; one of another length writes none down: zeros
 abbrev pub loaded_of : List ℕ → Sequence
 loaded_of query = pick (eqb (length query) query_bytes) (sequence_of query) (fresh 0)
+
+-- the sequence of a query with its refusal
+unfoldable pub checked_of : List ℕ → Checked
+checked_of query = record { sequence = loaded_of query; outcome = check_of query }
 
 -- the refusals of a query by number, for the calls that are handed one
 abbrev pub query_refusals : List ℕ → List (Bool × Answer)

@@ -10,7 +10,7 @@ ghost use Rattle.sequence.specs.Limits.{max_terms, max_cells, query_bytes, a_byt
 ghost use Rattle.sequence.specs.Answers.{refusal, placed, outcome_answer, reported_answer};
 ghost use Rattle.sequence.specs.Report.{uniqueness_by, report_of, report_answer, a_buffer, b_buffer, profile_of, profile_answer, filled, profile_buffer};
 ghost use Rattle.sequence.specs.Trace.{records_of, trace_of, trace_answer, sheet_filled, words_of, work_of};
-ghost use Rattle.sequence.specs.Rules.{IsSound, outside, first_large, zero_from, fault_of, is_sound, fresh, open_of, open_answer, push_of, push_answer, sequence_of, loaded_of, checked_of};
+ghost use Rattle.sequence.specs.Rules.{IsSound, outside, first_large, zero_from, fault_of, is_sound, fresh, open_of, open_answer, push_of, push_answer, sequence_of, accepted_of, loaded_of, checked_of};
 
 use steps::{CELLS, LOG, StepRecord, TERMS};
 use synthesis::Synthesis;
@@ -96,6 +96,13 @@ pub struct Opened {
     pub outcome: Result<(), Refusal>,
 }
 
+// The sequence that a query writes down, and whether the query is refused.
+#[derive(Clone, Copy, Debug, PartialEq, Eq)]
+pub struct Checked {
+    pub sequence: Sequence,
+    pub outcome: Result<(), Refusal>,
+}
+
 // Whether a modulus lies outside the limits.
 pub fn outside(modulus: u32) -> bool
     ensures { result ≡ outside modulus }
@@ -169,8 +176,8 @@ pub fn loaded(query: &[u8]) -> Sequence
 }
 
 // The sequence of a query, or the query's first refusal among 5, 1, 2, 3, 4.
-pub fn check(query: &[u8]) -> Result<Sequence, Refusal>
-    ensures { result ≡ checked_of query.now }
+pub fn accept(query: &[u8]) -> Result<Sequence, Refusal>
+    ensures { result ≡ accepted_of query.now }
 {
     if query.len() != QUERY_BYTES {
         return Err(Refusal::Buffer);
@@ -180,13 +187,43 @@ pub fn check(query: &[u8]) -> Result<Sequence, Refusal>
     Ok(s)
 }
 
+// The sequence that any query writes down, with the query's first refusal among 5, 1, 2, 3, 4: for those who want the sequence of a refused one too.
+pub fn check(query: &[u8]) -> Checked
+    ensures { result ≡ checked_of query.now }
+{
+    let sequence = loaded(query);
+    if query.len() != QUERY_BYTES {
+        return Checked {
+            sequence,
+            outcome: Err(Refusal::Buffer),
+        };
+    }
+    let outcome = sequence.inspect();
+    Checked { sequence, outcome }
+}
+
+// Writes the coefficients of a as cells, and those of b: in a report, and in a record.
+fn write_a(a: &[u32; CELLS], out: &mut [u8])
+    requires { (length a.now ≡ max_cells) × (length out.old ≡ a_bytes) }
+    ensures { out.new ≡ bytes_of a.now }
+{
+    cells::write(out, a);
+}
+
+fn write_b(b: &[u32; TERMS], out: &mut [u8])
+    requires { (length b.now ≡ max_terms) × (length out.old ≡ b_bytes) }
+    ensures { out.new ≡ bytes_of b.now }
+{
+    cells::write(out, b);
+}
+
 // Writes a to 258 bytes and b to the 256 after them: how a register stands in a record.
 pub fn write_register(x: &Synthesis, out: &mut [u8])
     requires { (length x.now.a ≡ max_cells) × (length x.now.b ≡ max_terms) × (length out.old ≡ register_bytes) }
     ensures { out.new ≡ bytes_of x.now.a ++ bytes_of x.now.b }
 {
-    cells::write(&mut out[0..A_BYTES], &x.a);
-    cells::write(&mut out[A_BYTES..REGISTER_BYTES], &x.b);
+    write_a(&x.a, &mut out[0..A_BYTES]);
+    write_b(&x.b, &mut out[A_BYTES..REGISTER_BYTES]);
 }
 
 // Whether a register of length l, the least for n terms, is the only one. Modulo a prime it is where 2l ≤ n (the crate counting).
@@ -210,8 +247,8 @@ fn write_report(x: &Synthesis, n: u32, a: &mut [u8], b: &mut [u8]) -> Report
     ensures { (result.length ≡ x.now.length) × (result.uniqueness ≡ uniqueness_by x.now.prime n x.now.length)
         × (a.new ≡ bytes_of x.now.a) × (b.new ≡ bytes_of x.now.b) }
 {
-    cells::write(a, &x.a);
-    cells::write(b, &x.b);
+    write_a(&x.a, a);
+    write_b(&x.b, b);
     let uniqueness = uniqueness_of(x.prime, n, x.length);
     Report {
         length: x.length,

@@ -27,16 +27,16 @@ returns-in_err-s c =
     let p = err_from_is_err_and c.from_residual.result c.from_residual.ensures.1 in
     rw (p.1, p.2)
     (verify_told v.query.now v.a.now v.b.now v.length
-    (simp (eq-eqb _ _ c.if-a-ne-A_BYTES.false, eq-eqb _ _ c.if-b-ne-B_BYTES.false, checked_refused _ (sym c.in_err-s.was ∙ c.check.ensures))))
+    (simp (eq-eqb _ _ c.if-a-ne-A_BYTES.false, eq-eqb _ _ c.if-b-ne-B_BYTES.false, checked_refused _ (sym c.in_err-s.was ∙ c.accept.ensures))))
 
 pub judge-requires : goal.judge-requires
 judge-requires c =
-    ((accepted _ (sym c.in_ok-s.was ∙ c.check.ensures)).sound, c.if-a-ne-A_BYTES.false, c.if-b-ne-B_BYTES.false)
+    ((accepted _ (sym c.in_ok-s.was ∙ c.accept.ensures)).sound, c.if-a-ne-A_BYTES.false, c.if-b-ne-B_BYTES.false)
 
 pub returns : goal.returns
 unfolding verify_of
 returns c =
     let v = c.args in
-    let q = accepted _ (sym c.in_ok-s.was ∙ c.check.ensures) in
+    let q = accepted _ (sym c.in_ok-s.was ∙ c.accept.ensures) in
     verify_told v.query.now v.a.now v.b.now v.length
     (simp (eq-eqb _ _ c.if-a-ne-A_BYTES.false, eq-eqb _ _ c.if-b-ne-B_BYTES.false, q.done, ← q.same) c.judge.ensures)

@@ -1,17 +1,17 @@
 -- `catalogue::is_good` meets its contract: where there is no place, and only there, the register passes.
 -- Assumes nothing.
-use mathlib.Core.Path.{◌≡◌, sym, ap, ◌∙◌}
-use mathlib.Core.Bool.{Bool, true, false, not}
+use mathlib.Core.Path.{sym, ap, ◌∙◌}
+use Rattle.std.specs.Prelude.{is_none}
 use Rattle.catalogue.specs.Rules.{is_yes, passes}
 use Rattle.catalogue.proofs.is_good.Goals as goal
 
-turned : (x y : Bool) → x ≡ not y → y ≡ not x
-turned x true h = sym (ap not h)
-turned x false h = sym (ap not h)
-
-pub returns-in-Ok : goal.returns-in-Ok
+pub returns-in-None : goal.returns-in-None
 unfolding passes
-returns-in-Ok c = turned _ _ c.is_none.ensures ∙ simp (← c.cell-l.ensures.0) (ap is_yes (sym c.in-Ok.is ∙ c.judge-v.ensures))
+returns-in-None c = simp (← c.cell-l.ensures.0) (ap is_none (sym c.in-None.is) ∙ ap is_yes (sym c.in-Ok.is ∙ c.judge-v.ensures))
+
+pub returns-in-Some : goal.returns-in-Some
+unfolding passes
+returns-in-Some c = simp (← c.cell-l.ensures.0) (ap is_none (sym c.in-Some.is) ∙ ap is_yes (sym c.in-Ok.is ∙ c.judge-v.ensures))
 
 pub returns-in-Err : goal.returns-in-Err
 unfolding passes

@@ -21,18 +21,18 @@ returns-in_err-s c =
     let v = c.args in
     let p = err_from_is_err_and c.from_residual.result c.from_residual.ensures.1 in
     rw (p.1, p.2)
-    (synthesize_told v.query.now v.out.now (simp (eq-eqb _ _ c.if-out-ne-RECORD_BYTES.false, checked_refused _ (sym c.in_err-s.was ∙ c.check.ensures))) refl)
+    (synthesize_told v.query.now v.out.now (simp (eq-eqb _ _ c.if-out-ne-RECORD_BYTES.false, checked_refused _ (sym c.in_err-s.was ∙ c.accept.ensures))) refl)
 
 pub write_record-requires : goal.write_record-requires
 write_record-requires c =
-    let q = accepted _ (sym c.in_ok-s.was ∙ c.check.ensures) in
+    let q = accepted _ (sym c.in_ok-s.was ∙ c.accept.ensures) in
     (q.long, q.sound, c.if-out-ne-RECORD_BYTES.false)
 
 pub returns : goal.returns
 unfolding synthesize_of
 returns c =
     let v = c.args in
-    let q = accepted _ (sym c.in_ok-s.was ∙ c.check.ensures) in
+    let q = accepted _ (sym c.in_ok-s.was ∙ c.accept.ensures) in
     synthesize_told v.query.now v.out.now
     (simp (eq-eqb _ _ c.if-out-ne-RECORD_BYTES.false, q.done))
     (c.write_record.ensures ∙ is_made _ _ q.same)

@@ -10,24 +10,24 @@ pub returns-in_err-s : goal.returns-in_err-s
 returns-in_err-s c =
     let a = c.args in
     let p = err_from_is_err_and c.from_residual.result c.from_residual.ensures.1 in
-    rw (p.1, p.2) (record { value = first_refused a.first.now a.second.now (checked_refused _ (sym c.in_err-s.was ∙ c.check.ensures)); query_after = refl })
+    rw (p.1, p.2) (record { value = first_refused a.first.now a.second.now (checked_refused _ (sym c.in_err-s.was ∙ c.accept.ensures)); query_after = refl })
 
 pub returns-in_err-t : goal.returns-in_err-t
 returns-in_err-t c =
     let a = c.args in
     let p = err_from_is_err_and c.from_residual-in_err-t.result c.from_residual-in_err-t.ensures.1 in
-    let s = accepted _ (sym c.in_ok-s.was ∙ c.check.ensures) in
-    rw (p.1, p.2) (record { value = second_refused a.first.now a.second.now s.done (checked_refused _ (sym c.in_err-t.was ∙ c.check-2.ensures)); query_after = refl })
+    let s = accepted _ (sym c.in_ok-s.was ∙ c.accept.ensures) in
+    rw (p.1, p.2) (record { value = second_refused a.first.now a.second.now s.done (checked_refused _ (sym c.in_err-t.was ∙ c.accept-2.ensures)); query_after = refl })
 
 pub merge_sound-requires : goal.merge_sound-requires
 merge_sound-requires c = (
-  (accepted _ (sym c.in_ok-s.was ∙ c.check.ensures)).sound,
-  (accepted _ (sym c.in_ok-t.was ∙ c.check-2.ensures)).sound,
+  (accepted _ (sym c.in_ok-s.was ∙ c.accept.ensures)).sound,
+  (accepted _ (sym c.in_ok-t.was ∙ c.accept-2.ensures)).sound,
   c.requires,
 )
 
 pub returns : goal.returns
 returns c =
     let a = c.args in
-    both_passed a.first.now a.second.now a.query.now (accepted _ (sym c.in_ok-s.was ∙ c.check.ensures)) (accepted _ (sym c.in_ok-t.was ∙ c.check-2.ensures))
+    both_passed a.first.now a.second.now a.query.now (accepted _ (sym c.in_ok-s.was ∙ c.accept.ensures)) (accepted _ (sym c.in_ok-t.was ∙ c.accept-2.ensures))
     c.merge_sound.ensures.value c.merge_sound.ensures.query_after

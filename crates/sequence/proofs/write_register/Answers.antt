@@ -14,7 +14,7 @@ use Rattle.sequence.proofs.write_register.Goals as goal
 
 pub returns : goal.returns
 returns c =
-    let first = c.write in
-    let second = c.write-2 in
+    let first = c.write_a in
+    let second = c.write_b in
     ap₂ (λ (x y : List ℕ). put_mid a_bytes b_bytes (x ++ drop a_bytes c.args.out.now) y) first.ensures second.ensures
     ∙ two_parts (bytes_of c.args.x.now.a) (bytes_of c.args.x.now.b) c.args.out.now (omega (arith, length_bytes_of c.args.x.now.a, c.requires.0)) c.requires.2
