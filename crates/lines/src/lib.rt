@@ -15,7 +15,7 @@ ghost use Rattle.lines.specs.Reading.{class_of, goes, meets, state_after, may_en
 ghost use Rattle.lines.specs.Reply.{reply_to, read_of, read_answer, query_in};
 ghost use Rattle.lines.specs.Scan.{scanned_of, Kept, count_ended, array_ended};
 
-use sequence::{QUERY_BYTES, Refusal, Sequence};
+use sequence::{QUERY_BYTES, Refusal};
 use steps::TERMS;
 
 #[derive(Clone, Copy)]
@@ -292,16 +292,17 @@ fn residue_of(t: i32, m: u32) -> u32
     residue::of_signed(t, m)
 }
 
-// The terms' remainders.
-fn residues(terms: &[i32; TERMS], m: u32) -> [u32; TERMS]
-    requires { (0 < m) × (length terms.now ≡ max_terms) }
-    ensures { result ≡ tabulate max_terms (λ j. residue_of m (get_or terms.now j (pos 0))) }
+// Writes the modulus, the count and the terms' remainders. Not by `Sequence::write`: a sequence would more than double the stack of the call.
+fn write_query(m: u32, n: u32, terms: &[i32; TERMS], query: &mut [u8])
+    requires { (0 < m) × (length terms.now ≡ max_terms) × (length query.old ≡ query_bytes) }
+    ensures { query.new ≡ bytes_of (m ∷ n ∷ tabulate max_terms (λ j. residue_of m (get_or terms.now j (pos 0)))) }
 {
-    let mut residues = [0u32; TERMS];
+    cells::put(query, 0, m);
+    cells::put(query, 1, n);
     for j in 0..TERMS {
-        residues[j] = residue_of(terms[j], m);
+        let r = residue_of(terms[j], m);
+        cells::put(query, 2 + j, r);
     }
-    residues
 }
 
 // The last checks of a line that reads well, and its query.
@@ -316,12 +317,7 @@ fn fill(modulus: u32, n: usize, terms: &[i32; TERMS], query: &mut [u8]) -> Resul
     if TERMS < n {
         return Err(Refusal::Count);
     }
-    let s = Sequence {
-        modulus,
-        count: n as u32,
-        terms: residues(terms, modulus),
-    };
-    s.write(query);
+    write_query(modulus, n as u32, terms, query);
     Ok(())
 }
 

@@ -1,11 +1,9 @@
 -- `lines::fill` meets its contract: each reply is the one that its tests pick.
 -- Assumes nothing.
-use mathlib.Core.Path.{refl, sym, ap, ◌∙◌}
-use mathlib.Core.List.{List, ◌∷◌}
-use Prim.Native.Nat.{ℕ, ◌<◌}
+use mathlib.Core.Path.{refl, sym, ◌∙◌}
+use Prim.Native.Nat.{◌<◌}
 use native.Mathlib.Omega.{arith}
 use borrow.Author.Tests.{lt-ltb, le-ltb}
-use Rattle.cells.specs.Cell.{bytes_of}
 use Rattle.sequence.proofs.Laws.{inside}
 use Rattle.lines.proofs.fill.Goals as goal
 
@@ -15,14 +13,10 @@ returns-then-outside c = record { value = simp (sym c.outside.ensures ∙ c.if-o
 pub returns-then-n-gt-TERMS : goal.returns-then-n-gt-TERMS
 returns-then-n-gt-TERMS c = record { value = simp (sym c.outside.ensures ∙ c.if-outside.false, lt-ltb _ _ c.if-n-gt-TERMS.true); query_after = refl }
 
-pub residues-requires : goal.residues-requires
-residues-requires c =
+pub write_query-requires : goal.write_query-requires
+write_query-requires c =
     let h : 0 < c.args.modulus = omega (arith, (inside c.args.modulus (sym c.outside.ensures ∙ c.if-outside.false)).0) in
-    (h, c.requires.0)
+    (h, c.requires.0, c.requires.1)
 
 pub returns : goal.returns
-returns c =
-    let a = c.args in record {
-      value = simp (sym c.outside.ensures ∙ c.if-outside.false, le-ltb _ _ c.if-n-gt-TERMS.false);
-      query_after = c.write.ensures ∙ ap (λ (ts : List ℕ). bytes_of (a.modulus ∷ a.n ∷ ts)) c.residues.ensures;
-    }
+returns c = record { value = simp (sym c.outside.ensures ∙ c.if-outside.false, le-ltb _ _ c.if-n-gt-TERMS.false); query_after = c.write_query.ensures }
