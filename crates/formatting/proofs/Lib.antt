@@ -1,3 +1,4 @@
+pub mod Room
 pub mod Numeral
 pub mod Separated
 pub mod Degree

@@ -6,8 +6,8 @@ use Rattle.formatting.proofs.pair_line.Goals as goal
 
 pub returns-in-Some-clause-line_value : goal.returns-in-Some-clause-line_value
 returns-in-Some-clause-line_value c =
-    c.census_line.ensures ∙ answer_told _ (sym c.read_pair.ensures ∙ c.in-Some.is)
+    c.census.ensures.text ∙ answer_told _ (sym c.read_pair.ensures ∙ c.in-Some.is)
 
 pub returns-in-None-clause-line_value : goal.returns-in-None-clause-line_value
 returns-in-None-clause-line_value c =
-    c.no_pair_line.ensures ∙ answer_told _ (sym c.read_pair.ensures ∙ c.in-None.is)
+    c.no_pair_line.ensures.text ∙ answer_told _ (sym c.read_pair.ensures ∙ c.in-None.is)
