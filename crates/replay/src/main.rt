@@ -281,6 +281,11 @@ impl<R: Read, W: Write> Replay<R, W> {
             Ok(given) => given.print(&mut self.out)?,
             Err(r) => printing::refused(&mut self.out, r)?,
         }
+        self.hashes(hashes)
+    }
+
+    // The end of a line.
+    fn hashes(&mut self, hashes: &[u32]) -> Result<(), Stop> {
         for h in hashes {
             write!(self.out, " {h:08x}")?;
         }
@@ -369,8 +374,10 @@ impl<R: Read, W: Write> Replay<R, W> {
             return Err(Stop::BadForge);
         }
         let query = self.read_array::<QUERY_BYTES>()?;
-        self.sequence = sequence::loaded(&query);
-        self.held(b"forge ", Ok(()))
+        self.sequence = sequence::check(&query).sequence;
+        printing::text(&mut self.out, b"forge ok")?;
+        let h = hash_sequence(&self.sequence);
+        self.hashes(&[h])
     }
 
     // A sheet is not lent: its records are those of the log, and the room only counts them.
@@ -428,8 +435,9 @@ impl<R: Read, W: Write> Replay<R, W> {
     fn enumerate(&mut self, c: Call) -> Result<(), Stop> {
         let mut query = [0u8; ROOM];
         let query = filled(&mut query, c.x, c.fill);
-        let count = u32::from_le_bytes(self.read_array()?);
-        let number = u64::from_le_bytes(self.read_array()?);
+        let [c0, c1, c2, c3, n0, n1, n2, n3, n4, n5, n6, n7] = self.read_array::<12>()?;
+        let count = u32::from_le_bytes([c0, c1, c2, c3]);
+        let number = u64::from_le_bytes([n0, n1, n2, n3, n4, n5, n6, n7]);
         let r = enumeration::enumerate(c.number, count, number, query);
         self.line(b"enumerate ", r, &[hash(query)])
     }

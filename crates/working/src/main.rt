@@ -37,21 +37,25 @@ fn show<W: Write>(out: &mut W, s: &Sequence) -> io::Result<()> {
     let mut a = [0u8; A_BYTES];
     let mut b = [0u8; B_BYTES];
     let mut log = [0u64; LOG];
-    match s.work(&mut a, &mut b, LOG, &mut log) {
-        Ok(worked) => {
-            let report = Ok(worked.report);
-            printing::line(out, &formatting::reported_line(s, report, &a))?;
-            printing::line(out, &formatting::uniqueness_line(report))?;
-            table(out, &log, worked.count)
-        }
-        Err(r) => printing::line(out, &formatting::refusal_line(r)),
+    let worked = s.work(&mut a, &mut b, LOG, &mut log);
+    let reply = worked.map(|w| w.report);
+    printing::line(out, &formatting::reported_line(s, reply, &a))?;
+    printing::line(out, &formatting::uniqueness_line(reply))?;
+    match worked {
+        Ok(w) => table(out, &log, w.count),
+        Err(_) => Ok(()),
     }
 }
 
+// A function of its own, so that a line is cleared only where there is a refusal.
+fn refuse<W: Write>(out: &mut W, r: Refusal) -> io::Result<()> {
+    printing::line(out, &formatting::refusal_line(r))
+}
+
 fn one<W: Write>(out: &mut W, query: &[u8]) -> io::Result<()> {
-    match sequence::check(query) {
+    match sequence::accept(query) {
         Ok(s) => show(out, &s),
-        Err(r) => printing::line(out, &formatting::refusal_line(r)),
+        Err(r) => refuse(out, r),
     }
 }
 
@@ -65,7 +69,7 @@ fn answer<W: Write>(out: &mut W, line: &[u8]) -> io::Result<()> {
     let mut query = [0u8; QUERY_BYTES];
     match lines::read_line(line, &mut query) {
         Ok(()) => one(out, &query),
-        Err(r) => printing::line(out, &formatting::refusal_line(r)),
+        Err(r) => refuse(out, r),
     }
 }
 
@@ -74,7 +78,7 @@ fn typed_lines<R: Read, W: Write>(reader: &mut R, out: &mut W) -> io::Result<()>
     input::each_line(reader, |typed| {
         match typed {
             Typed::Line(line) => answer(out, line)?,
-            Typed::TooLong => printing::line(out, &formatting::refusal_line(Refusal::Buffer))?,
+            Typed::TooLong => refuse(out, Refusal::Buffer)?,
         }
         Ok(true)
     })

@@ -5,4 +5,4 @@ use Rattle.sequence.proofs.Tracing.{count_fits}
 use Rattle.working.proofs.show.Goals as goal
 
 pub table-requires : goal.table-requires
-table-requires g c = (count_fits _ _ _ _ _ (sym c.in-Ok.is ∙ c.work.ensures.0)).1
+table-requires g c = (count_fits _ _ _ _ _ (sym c.in-Ok.is ∙ c.work-worked.ensures.0)).1
