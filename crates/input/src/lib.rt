@@ -241,7 +241,8 @@ pub fn each_line<R: Read, F: FnMut(Typed<'_>) -> io::Result<bool>>(
         let taken = next_line(reader, &mut source, &mut chunk, &mut line)?;
         match typed_of(taken, &line) {
             Some(typed) => {
-                if !answer(typed)? {
+                let more = answer(typed)?;
+                if !more {
                     return Ok(());
                 }
             }

@@ -15,7 +15,7 @@ loop-line-init g c = (search (rules, of_calls), λ r x. x)
 pub loop-line-preserved : goal.loop-line-preserved
 loop-line-preserved g c = (
   search (rules, of_calls),
-  each_answered (given.F-step g) turns _ (omega arith) c.loop-line.invariant.1 (omega arith) c.in_ok-taken.ensures.told c.in-Some.ensures _ c.in_ok-answer-in-Some.ensures c.if-not-branch.false,
+  each_answered (given.F-step g) turns _ (omega arith) c.loop-line.invariant.1 (omega arith) c.in_ok-taken.ensures.told c.in-Some.ensures _ c.in_ok-more-in-Some.ensures c.if-not-more.false,
 )
 
 pub returns-in_err-taken : goal.returns-in_err-taken
@@ -23,16 +23,16 @@ returns-in_err-taken g c =
     let p = err_from_is_err_and c.from_residual.result c.from_residual.ensures.1 in
     each_from (given.F-step g) _ c.new-source.ensures (each_cut (given.F-step g) turns _ (omega arith) c.loop-line.invariant.1 p.0 c.in_err-taken.ensures.failed p.1)
 
-pub returns-in_err-answer-in-Some : goal.returns-in_err-answer-in-Some
-returns-in_err-answer-in-Some g c =
-    let p = err_from_is_err_and c.from_residual-in_err-answer-in-Some.result c.from_residual-in_err-answer-in-Some.ensures.1 in
+pub returns-in_err-more-in-Some : goal.returns-in_err-more-in-Some
+returns-in_err-more-in-Some g c =
+    let p = err_from_is_err_and c.from_residual-in_err-more-in-Some.result c.from_residual-in_err-more-in-Some.ensures.1 in
     each_from (given.F-step g) _ c.new-source.ensures
-    (each_failed (given.F-step g) turns _ (omega arith) c.loop-line.invariant.1 (omega arith) c.in_ok-taken.ensures.told c.in-Some.ensures _ c.in_err-answer-in-Some.ensures (rw (← p.2) p.1))
+    (each_failed (given.F-step g) turns _ (omega arith) c.loop-line.invariant.1 (omega arith) c.in_ok-taken.ensures.told c.in-Some.ensures _ c.in_err-more-in-Some.ensures (rw (← p.2) p.1))
 
-pub returns-then-not-branch : goal.returns-then-not-branch
-returns-then-not-branch g c =
+pub returns-then-not-more : goal.returns-then-not-more
+returns-then-not-more g c =
     each_from (given.F-step g) _ c.new-source.ensures
-    (each_stopped (given.F-step g) turns _ (omega arith) c.loop-line.invariant.1 (omega arith) c.in_ok-taken.ensures.told c.in-Some.ensures _ c.in_ok-answer-in-Some.ensures c.if-not-branch.true)
+    (each_stopped (given.F-step g) turns _ (omega arith) c.loop-line.invariant.1 (omega arith) c.in_ok-taken.ensures.told c.in-Some.ensures _ c.in_ok-more-in-Some.ensures c.if-not-more.true)
 
 pub returns-in-None : goal.returns-in-None
 returns-in-None g c =
