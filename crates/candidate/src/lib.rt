@@ -201,5 +201,5 @@ pub fn generate(
     }
     find_flaw(modulus, length, a, b)?;
     fill(modulus, a, b, length as usize, out, n);
-    return Ok(());
+    Ok(())
 }
