@@ -32,7 +32,7 @@ fn table<W: Write>(out: &mut W, log: &[u64; LOG], count: usize) -> io::Result<()
     Ok(())
 }
 
-// The register and the working. The log has room for every sheet, so that nothing is refused here that `check` passes.
+// The register and the working. The log has room for every sheet, so that nothing is refused here that `accept` passes.
 fn show<W: Write>(out: &mut W, s: &Sequence) -> io::Result<()> {
     let mut a = [0u8; A_BYTES];
     let mut b = [0u8; B_BYTES];
